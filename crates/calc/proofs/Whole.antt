@@ -1,0 +1,111 @@
+-- Sums, differences, products, quotients and remainders of words are whole at 64 bits; and the lowest 32 bits of what
+-- is whole there. Assumes nothing.
+use mathlib.Core.Path.{_≡_, refl}
+use mathlib.Core.Bool.{Bool, true, false, cond}
+use Prim.Native.Nat.{ℕ, zero, suc, _+_, _-_, _*_, _/_, _%_, _≤_, _<_}
+use native.Mathlib.Omega.{arith}
+use native.Mathlib.Nat.{mul-le-mul-left, mul-le-mul-right, le-trans, div-le-self}
+use lib.Dec.{ltb, leb·zero}
+use lib.IntN.{ℤ, pos, negsuc, natAbs, negℤ, subℕ, _+ℤ_, _*ℤ_}
+use lib.Signed.{mag, mag-rem, natAbs-le, leZ, quotZ, remZ}
+use mir.Syntax.{w32, w64}
+use mir.Val.{SFits, ofZ, toZ}
+use mir.ValLaws.{toZ-ofZ, toZ-fits}
+use borrow.Author.Needs.{needs}
+use borrow.Author.Tests.{eq-eqb, ne-eqb}
+use Rattle.calc.specs.Calc.{low, wrap, isZero}
+use Rattle.words.proofs.Signed.{test-sign, down}
+
+pub widen : {z : ℤ} → SFits w32 z → SFits w64 z
+widen f = record { sfits = omega (arith, f .sfits) }
+
+mag-cond : (t : Bool) (x y : ℤ) {k : ℕ} → mag x < k → mag y < k → mag (cond t x y) < k
+mag-cond true x y h g = h
+mag-cond false x y h g = g
+
+mag-sub : (a b : ℕ) {k : ℕ} → a < k → b ≤ k → mag (subℕ a b) < k
+mag-sub a b h g = mag-cond (ltb a b) (negsuc (b - suc a)) (pos (a - b)) (omega arith) (omega arith)
+
+mag-add : (a b : ℤ) {k : ℕ} → mag a < k → mag b < k → mag (a +ℤ b) < k + k
+mag-add (pos a) (pos b) h g = omega arith
+mag-add (pos a) (negsuc b) h g = mag-sub a (suc b) (omega arith) (omega arith)
+mag-add (negsuc a) (pos b) h g = mag-sub b (suc a) (omega arith) (omega arith)
+mag-add (negsuc a) (negsuc b) h g = omega arith
+
+mag-neg : (n : ℕ) {k : ℕ} → n ≤ k → mag (negℤ (pos n)) ≤ k
+mag-neg zero h = omega arith
+mag-neg (suc n) h = omega arith
+
+mag-negℤ : (z : ℤ) {k : ℕ} → mag z < k → mag (negℤ z) < suc k
+mag-negℤ (pos zero) h = omega arith
+mag-negℤ (pos (suc n)) h = omega arith
+mag-negℤ (negsuc n) h = omega arith
+
+prod : {a b k : ℕ} → a ≤ k → b ≤ k → a * b ≤ k * k
+prod {a} {b} {k} h g = le-trans (mul-le-mul-right b h) (mul-le-mul-left k g)
+
+mag-mul : (a b : ℤ) {k : ℕ} → mag a < k → mag b < k → mag (a *ℤ b) ≤ k * k
+mag-mul (pos a) (pos b) h g = prod (omega arith) (omega arith)
+mag-mul (pos a) (negsuc b) h g = mag-neg (a * suc b) (prod (omega arith) (omega arith))
+mag-mul (negsuc a) (pos b) h g = mag-neg (suc a * b) (prod (omega arith) (omega arith))
+mag-mul (negsuc a) (negsuc b) h g = prod (omega arith) (omega arith)
+
+mag-quot : (a b : ℤ) → mag (quotZ a b) ≤ natAbs a
+mag-quot (pos a) (pos b) = div-le-self a b
+mag-quot (pos a) (negsuc b) = mag-neg (a / suc b) (div-le-self a (suc b))
+mag-quot (negsuc a) (pos b) = mag-neg (suc a / b) (div-le-self (suc a) b)
+mag-quot (negsuc a) (negsuc b) = div-le-self (suc a) (suc b)
+
+pub add-whole : (a b : ℤ) → SFits w32 a → SFits w32 b → SFits w64 (a +ℤ b)
+add-whole a b f g = record { sfits = omega (arith, mag-add a b (f .sfits) (g .sfits)) }
+
+pub sub-whole : (a b : ℤ) → SFits w32 a → SFits w32 b → SFits w64 (a +ℤ negℤ b)
+sub-whole a b f g = record { sfits = omega (arith, mag-add a (negℤ b) {k = 2147483649} (omega (arith, f .sfits)) (mag-negℤ b (g .sfits))) }
+
+pub mul-whole : (a b : ℤ) → SFits w32 a → SFits w32 b → SFits w64 (a *ℤ b)
+mul-whole a b f g = record { sfits = omega (arith, mag-mul a b (f .sfits) (g .sfits)) }
+
+pub quot-whole : (a b : ℤ) → SFits w32 a → SFits w64 (quotZ a b)
+quot-whole a b f = record { sfits = omega (arith, mag-quot a b, natAbs-le a (f .sfits)) }
+
+pub rem-word : (a b : ℤ) → SFits w32 a → SFits w32 (remZ a b)
+rem-word a b f = record { sfits = omega (arith, mag-rem a b, f .sfits) }
+
+-- a remainder at 64 bits, cut back to a word
+pub rem-cut : (a b : ℤ) → SFits w32 a → SFits w32 b
+    → toZ w32 (ofZ w32 (toZ w64 (ofZ w64 (remZ (toZ w64 (ofZ w64 (toZ w32 (ofZ w32 a)))) (toZ w64 (ofZ w64 (toZ w32 (ofZ w32 b)))))))) ≡ remZ a b
+rem-cut a b f g =
+    let h = rem-word a b f in
+    rw (toZ-ofZ w32 a f, toZ-ofZ w32 b g, toZ-ofZ w64 a (widen f), toZ-ofZ w64 b (widen g), toZ-ofZ w64 (remZ a b) (widen h), toZ-ofZ w32 (remZ a b) h)
+
+-- ---- a divisor: the machine compares its bits with 0
+pub zero-yes : (b : ℤ) → SFits w32 b → ofZ w32 b ≡ 0 → isZero b ≡ true
+zero-yes (pos n) f h = eq-eqb n 0 h
+zero-yes (negsuc n) f h = absurd (omega (arith, f .sfits, h))
+
+pub zero-no : (b : ℤ) → (ofZ w32 b ≡ 0 → ⊥) → isZero b ≡ false
+zero-no (pos n) h = ne-eqb n 0 h
+zero-no (negsuc n) h = refl
+
+pub divisor : (b : ℤ) → SFits w32 b → (ofZ w32 b ≡ 0 → ⊥) → 0 < ofZ w64 b
+divisor (pos zero) f h = absurd (h refl)
+divisor (pos (suc n)) f h = omega arith
+divisor (negsuc n) f h = omega (arith, f .sfits)
+
+-- ---- the lowest 32 bits, as `wrapped` finds them
+low-pos : (z : ℤ) → leZ (pos 0) z ≡ true → natAbs z % 4294967296 ≡ low z
+low-pos (pos n) h = refl
+low-pos (negsuc n) h = cc
+
+low-neg : (z : ℤ) → leZ (pos 0) z ≡ false → 4294967295 - mag z % 4294967296 ≡ low z
+low-neg (pos n) h = cc (leb·zero n)
+low-neg (negsuc n) h = refl
+
+pub low-up : (z : ℤ) → SFits w64 z → leZ (pos 0) (toZ w64 (ofZ w64 z)) ≡ true → natAbs (toZ w64 (ofZ w64 z)) % 4294967296 ≡ low z
+low-up z f h = rw (toZ-ofZ w64 z f) (low-pos z (test-sign w64 z f h))
+
+pub low-down : (z : ℤ) → SFits w64 z → leZ (pos 0) (toZ w64 (ofZ w64 z)) ≡ false → 4294967295 - natAbs (toZ w64 (18446744073709551615 - ofZ w64 z)) % 4294967296 ≡ low z
+low-down z f h = rw (down w64 z f h) (low-neg z (test-sign w64 z f h))
+
+-- the list for a `search` at a need of an operation on words
+pub ruleset signed = (widen, add-whole, sub-whole, mul-whole, divisor, quot-whole, rem-word, needs)

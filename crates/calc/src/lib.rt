@@ -1,0 +1,22 @@
+// What CALC and CALCX make of two words: ADD SUB MUL, which wrap at 32 bits, DIV MOD, toward zero,
+// AND OR XOR, and NOT of one.
+mod dividing;
+mod logic;
+mod wrapping;
+
+pub use dividing::div;
+pub use dividing::modulo;
+pub use logic::and;
+pub use logic::not;
+pub use logic::or;
+pub use logic::xor;
+use words::Word;
+pub use wrapping::add;
+pub use wrapping::mul;
+pub use wrapping::sub;
+
+// What DIV and MOD answer.
+pub enum Divided {
+    Done(Word),
+    ByZero,
+}

@@ -1,0 +1,15 @@
+-- The order of words.
+use mathlib.Core.Bool.{Bool, _&&_}
+use lib.IntN.{ℤ}
+use lib.Signed.{leZ, ltZ}
+use Rattle.words.specs.Word.{pick}
+use Rattle.order.specs.declared.Compared.{Compared}
+use Rattle.order.specs.declared.Compared.the-variants.{Less, Equal, Greater}
+
+-- the last comparison: a against b
+abbrev pub comparedW : ℤ → ℤ → Compared
+comparedW a b = pick (ltZ a b) Less (pick (ltZ b a) Greater Equal)
+
+-- low..high, with both ends
+abbrev pub inRange : ℤ → ℤ → ℤ → Bool
+inRange low high z = leZ low z && leZ z high

@@ -1,5 +1,7 @@
 // What CALC and CALCX make of two words: ADD SUB MUL, which wrap at 32 bits, DIV MOD, toward zero,
 // AND OR XOR, and NOT of one.
+ghost use Rattle.calc.specs.Laws.{Laws};
+
 mod dividing;
 mod logic;
 mod wrapping;
@@ -20,3 +22,8 @@ pub enum Divided {
     Done(Word),
     ByZero,
 }
+
+// The laws of CALC's operations, held to be proved: the function does nothing.
+pub fn laws()
+    ensures { λ _. ⌜ Laws ⌝ }
+{}

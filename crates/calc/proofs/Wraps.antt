@@ -58,7 +58,7 @@ examples =
       and-ones = refl;
       or-sign = refl;
       xor-ones = refl;
-      not-zero = refl
+      not-zero = refl;
     }
 
 pub laws : Claims.Laws

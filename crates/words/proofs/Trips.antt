@@ -116,5 +116,5 @@ laws =
       read-put = read-put;
       put-length = put-length;
       put-before = put-before;
-      put-after = put-after
+      put-after = put-after;
     }

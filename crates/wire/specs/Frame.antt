@@ -1,0 +1,76 @@
+-- Commands and replies in nine bytes (01, "Datagrams and status").
+use Prim.Native.Nat.{ℕ, _+_, _%_}
+use mathlib.Core.Bool.{Bool, true, false, _&&_}
+use mathlib.Core.List.{List, [], _∷_, _++_}
+use lib.Dec.{eqb}
+use lib.IntN.{ℤ}
+use lib.ListN.{length, getD, take}
+use Rattle.words.specs.Word.{pick, word}
+use Rattle.words.specs.Bytes.{fourOf, wordAt}
+use Rattle.words.specs.declared.Four.{Four}
+use Rattle.wire.specs.declared.Command.{Command}
+use Rattle.wire.specs.declared.Reply.{Reply}
+use Rattle.wire.specs.declared.Written.{Written}
+use Rattle.wire.specs.declared.Written.the-variants.{Done, Length}
+use Rattle.wire.specs.declared.Taken.{Taken}
+use Rattle.wire.specs.declared.Taken.the-variants.{NotOurs, Damaged, Whole}
+
+abbrev pub total : List ℕ → ℕ
+total [] = 0
+total (x ∷ xs) = x + total xs
+
+-- "The checksum is the other eight bytes added with 8-bit wrapping."
+abbrev pub checksum : List ℕ → ℕ
+checksum xs = total xs % 256
+
+-- four bytes and those of a value
+abbrev pub eight : ℕ → ℕ → ℕ → ℕ → Four → List ℕ
+eight a b c d v = a ∷ b ∷ c ∷ d ∷ v .b3 ∷ v .b2 ∷ v .b1 ∷ v .b0 ∷ []
+
+abbrev pub summed : List ℕ → List ℕ
+summed xs = xs ++ (checksum xs ∷ [])
+
+-- a frame: four bytes, a value, most significant first, and the checksum
+unfoldable pub frame : ℕ → ℕ → ℕ → ℕ → ℤ → List ℕ
+frame a b c d v = summed (eight a b c d (fourOf v))
+
+-- "Command: address, command, type, motor or bank, value (4, signed, most significant first), checksum."
+abbrev pub commandFrame : ℕ → Command → List ℕ
+commandFrame address c = frame address (c .number) (c .kind) (c .motor) (c .value .v)
+
+-- "Reply: reply address (global 76), module address (global 66), status, command, value, checksum."
+abbrev pub replyFrame : Reply → List ℕ
+replyFrame r = frame (r .«reply_address») (r .«module_address») (r .status) (r .command) (r .value .v)
+
+-- ---- writing into a lent buffer: another length than 9 gets 20, and nothing is written
+abbrev pub writtenStatus : Written → ℕ
+writtenStatus Done = 100
+writtenStatus Length = 20
+
+abbrev pub writeStatus : List ℕ → ℕ
+writeStatus out = pick (eqb (length out) 9) 100 20
+
+abbrev pub written : List ℕ → List ℕ → List ℕ
+written out bytes = pick (eqb (length out) 9) bytes out
+
+-- ---- reading: nine bytes, the last of them the checksum of the others
+unfoldable pub rightFrame : List ℕ → Bool
+rightFrame s = eqb (length s) 9 && eqb (checksum (take 8 s)) (getD s 8 0)
+
+-- the seven bytes of a command at a place
+abbrev pub commandAt : List ℕ → ℕ → Command
+commandAt s at =
+    record { number = getD s at 0; kind = getD s (at + 1) 0; motor = getD s (at + 2) 0; value = word (wordAt s (at + 3)) }
+
+-- "length, address, 1": no reply to another length or another address; then the checksum; then the command
+unfoldable pub takenOf : ℕ → List ℕ → Taken
+takenOf ours s =
+    pick (eqb (length s) 9)
+    (pick (eqb (getD s 0 0) ours) (pick (rightFrame s) (Whole (commandAt s 1)) (Damaged (getD s 1 0))) NotOurs)
+    NotOurs
+
+-- the status of a datagram whose command, where there is one, gets the status `own`: "none" is 0
+abbrev pub takenStatus : ℕ → Taken → ℕ
+takenStatus own NotOurs = 0
+takenStatus own (Damaged n) = 1
+takenStatus own (Whole c) = own

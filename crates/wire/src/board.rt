@@ -1,0 +1,41 @@
+// The board's side of a serial line: a command taken apart, a reply put together.
+ghost use mathlib.Core.Path.{_≡_};
+ghost use Rattle.wire.specs.Frame.{writtenStatus, writeStatus, written, replyFrame, takenOf};
+use crate::Reply;
+use crate::Taken;
+use crate::Written;
+use crate::checksum::is_right;
+use crate::frame::command_at;
+use crate::frame::put_frame;
+
+// What a datagram of any length is to the board whose address is `ours`.
+pub fn take_command(s: &[u8], ours: u8) -> Taken
+    ensures { λ r. ⌜ r ≡ takenOf ours (now (s .entry)) ⌝ }
+{
+    if s.len() != 9 {
+        return Taken::NotOurs;
+    }
+    if s[0] != ours {
+        return Taken::NotOurs;
+    }
+    if is_right(s) {
+        Taken::Whole(command_at(s, 1))
+    } else {
+        Taken::Damaged(s[1])
+    }
+}
+
+// A reply into a lent buffer; one of another length than nine is left as it is.
+pub fn put_reply(out: &mut [u8], reply: Reply) -> Written
+    ensures { λ r. ⌜ (writtenStatus r ≡ writeStatus (now (out .entry))) × (now (out .exit) ≡ written (now (out .entry)) (replyFrame reply)) ⌝ }
+{
+    let value = reply.value;
+    put_frame(
+        out,
+        reply.reply_address,
+        reply.module_address,
+        reply.status,
+        reply.command,
+        value,
+    )
+}

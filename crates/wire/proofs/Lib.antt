@@ -1,2 +1,3 @@
 pub mod Nine
 pub mod Sums
+pub mod Frames

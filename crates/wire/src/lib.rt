@@ -5,6 +5,8 @@
 // command and value. On a serial line an address stands before the seven and the checksum after
 // them. `command_at` reads the seven wherever they stand, so that a form with another frame around
 // them, or none, has the same command beneath it.
+ghost use Rattle.wire.specs.Laws.{Laws};
+
 mod board;
 mod checksum;
 mod frame;
@@ -47,3 +49,8 @@ pub enum Taken {
     Damaged(u8),
     Whole(Command),
 }
+
+// The laws of frames, held to be proved: the function does nothing.
+pub fn laws()
+    ensures { λ _. ⌜ Laws ⌝ }
+{}

@@ -5,6 +5,7 @@
 ghost use mathlib.Core.Path.{_≡_};
 ghost use Rattle.wire.specs.Frame.{commandFrame, writtenStatus, writeStatus, written};
 ghost use Rattle.display.specs.Display.{answerOf, readOf};
+ghost use Rattle.display.specs.Laws.{Laws};
 use wire::Command;
 use wire::Reply;
 use wire::Written;
@@ -52,3 +53,8 @@ pub fn read_reply(s: &[u8]) -> Received
         Received::Checksum
     }
 }
+
+// The laws of both sides, held to be proved: the function does nothing.
+pub fn laws()
+    ensures { λ _. ⌜ Laws ⌝ }
+{}

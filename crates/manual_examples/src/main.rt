@@ -1,0 +1,313 @@
+// Every binary command and every reply that document 000 prints in its chapters 2 and 3: built and
+// read by the display's functions, compared with the printed bytes, and each command taken back by
+// the board's frame. A line for each, and a line with the counts.
+mod print;
+
+use display::Received;
+use print::number;
+use print::signed;
+use print::spelled;
+use print::text;
+use std::num::wrapping_add_u64;
+use wire::Command;
+use wire::Reply;
+use wire::Taken;
+use words::Word;
+
+struct Tally {
+    commands: u64,
+    replies: u64,
+    different: u64,
+}
+
+// Starts a line, and counts it where it is different.
+fn line(t: Tally, same: bool, name: &[u8]) -> Tally {
+    let mut next = t;
+    if same {
+        text(b"same ");
+    } else {
+        text(b"DIFFERENT ");
+        next.different = wrapping_add_u64(t.different, 1);
+    }
+    text(name);
+    text(b": ");
+    next
+}
+
+// The board at address 1 takes the frame as this command.
+fn taken_as(frame: &[u8], command: Command) -> bool {
+    let taken = wire::take_command(frame, 1);
+    match taken {
+        Taken::NotOurs => false,
+        Taken::Damaged(_) => false,
+        Taken::Whole(c) => {
+            c.number == command.number
+                && c.kind == command.kind
+                && c.motor == command.motor
+                && c.value.v == command.value.v
+        }
+    }
+}
+
+// A command to address 1 against its bytes as printed.
+fn command(
+    t: Tally,
+    name: &[u8],
+    number: u8,
+    kind: u8,
+    motor: u8,
+    value: i32,
+    printed: &[u8],
+) -> Tally {
+    let word = Word { v: value };
+    let sent = Command {
+        number: number,
+        kind: kind,
+        motor: motor,
+        value: word,
+    };
+    let mut frame = [0u8; 9];
+    display::build_command(&mut frame, 1, sent);
+    let bytes = spelled(frame);
+    let mut next = line(
+        t,
+        check::same(&bytes, printed) && taken_as(&frame, sent),
+        name,
+    );
+    text(&bytes);
+    text(b"\n");
+    next.commands = wrapping_add_u64(next.commands, 1);
+    next
+}
+
+// A misprinted frame, which the board refuses with 1.
+fn misprinted(t: Tally, name: &[u8], frame: [u8; 9]) -> Tally {
+    let refused = match wire::take_command(&frame, 1) {
+        Taken::NotOurs => false,
+        Taken::Damaged(_) => true,
+        Taken::Whole(_) => false,
+    };
+    let next = line(t, refused, name);
+    text(&spelled(frame));
+    text(b"\n");
+    next
+}
+
+// A printed reply from address 1 to address 2 with status 100, against what its example says.
+fn reply(t: Tally, name: &[u8], command: u8, value: i32, printed: [u8; 9]) -> Tally {
+    let mut next = t;
+    match display::read_reply(&printed) {
+        Received::Whole(r) => {
+            let v = r.value.v;
+            let same = r.reply_address == 2
+                && r.module_address == 1
+                && r.status == 100
+                && r.command == command
+                && v == value;
+            next = line(t, same, name);
+            fields(r);
+        }
+        Received::Length => {
+            next = line(t, false, name);
+            text(b"refused with 20");
+        }
+        Received::Checksum => {
+            next = line(t, false, name);
+            text(b"refused with 1");
+        }
+    }
+    text(b"\n");
+    next.replies = wrapping_add_u64(next.replies, 1);
+    next
+}
+
+fn fields(r: Reply) {
+    text(b"to ");
+    number(r.reply_address as u64);
+    text(b", from ");
+    number(r.module_address as u64);
+    text(b", status ");
+    number(r.status as u64);
+    text(b", command ");
+    number(r.command as u64);
+    text(b", value ");
+    let value = r.value;
+    signed(value);
+}
+
+// 3.6.1 to 3.6.4.
+fn motion(t: Tally) -> Tally {
+    let t = command(
+        t,
+        b"ROR 0, 500",
+        1,
+        0,
+        0,
+        500,
+        b"01 01 00 00 00 00 01 F4 F7",
+    );
+    let t = command(
+        t,
+        b"ROL 0, 500",
+        2,
+        0,
+        0,
+        500,
+        b"01 02 00 00 00 00 01 F4 F8",
+    );
+    let t = command(t, b"MST 0", 3, 0, 0, 0, b"01 03 00 00 00 00 00 00 04");
+    let t = command(
+        t,
+        b"MVP ABS, 0, 90000",
+        4,
+        0,
+        0,
+        90000,
+        b"01 04 00 00 00 01 5F 90 F5",
+    );
+    command(
+        t,
+        b"MVP REL, 0, -10000",
+        4,
+        1,
+        0,
+        -10000,
+        b"01 04 01 00 FF FF D8 F0 CC",
+    )
+}
+
+// 3.6.5 to 3.6.12. RSAP's checksum is printed as 0A; the rule gives 0F, and the rule decides.
+fn parameters(t: Tally) -> Tally {
+    let t = command(
+        t,
+        b"SAP 4, 0, 51200",
+        5,
+        4,
+        0,
+        51200,
+        b"01 05 04 00 00 00 C8 00 D2",
+    );
+    let t = command(t, b"GAP 1, 0", 6, 1, 0, 0, b"01 06 01 00 00 00 00 00 08");
+    let t = command(t, b"STAP 6, 12", 7, 6, 0, 0, b"01 07 06 00 00 00 00 00 0E");
+    let t = command(t, b"RSAP 8, 6", 8, 6, 0, 0, b"01 08 06 00 00 00 00 00 0F");
+    let t = misprinted(
+        t,
+        b"RSAP 8, 6 as printed, refused with 1",
+        [0x01, 0x08, 0x06, 0x00, 0x00, 0x00, 0x00, 0x00, 0x0A],
+    );
+    let t = command(
+        t,
+        b"SGP 66, 0, 3",
+        9,
+        66,
+        0,
+        3,
+        b"01 09 42 00 00 00 00 03 4F",
+    );
+    let t = command(t, b"GGP 66, 0", 10, 66, 0, 0, b"01 0A 42 00 00 00 00 00 4D");
+    let t = command(
+        t,
+        b"STGP 42, 2",
+        11,
+        42,
+        2,
+        0,
+        b"01 0B 2A 02 00 00 00 00 38",
+    );
+    command(
+        t,
+        b"RSGP 42, 2",
+        12,
+        42,
+        2,
+        0,
+        b"01 0C 2A 02 00 00 00 00 39",
+    )
+}
+
+// 3.6.13 to 3.6.16.
+fn ports_and_numbers(t: Tally) -> Tally {
+    let t = command(
+        t,
+        b"SIO 0, 2, 1",
+        14,
+        0,
+        2,
+        1,
+        b"01 0E 00 02 00 00 00 01 12",
+    );
+    let t = command(t, b"GIO 0, 1", 15, 0, 1, 0, b"01 0F 00 01 00 00 00 00 11");
+    let t = reply(
+        t,
+        b"reply to GIO 0, 1",
+        15,
+        302,
+        [0x02, 0x01, 0x64, 0x0F, 0x00, 0x00, 0x01, 0x2E, 0xA5],
+    );
+    let t = command(
+        t,
+        b"CALC MUL, -5000",
+        19,
+        2,
+        0,
+        -5000,
+        b"01 13 02 00 FF FF EC 78 78",
+    );
+    let t = reply(
+        t,
+        b"reply to CALC MUL, -5000",
+        19,
+        -5000,
+        [0x02, 0x01, 0x64, 0x13, 0xFF, 0xFF, 0xEC, 0x78, 0xDC],
+    );
+    command(
+        t,
+        b"COMP 1000",
+        20,
+        0,
+        0,
+        1000,
+        b"01 14 00 00 00 00 03 E8 00",
+    )
+}
+
+// 3.6.17 to 3.6.22, the labels at the addresses that 000 assumes.
+fn flow(t: Tally) -> Tally {
+    let t = command(t, b"JC GE, 10", 21, 5, 0, 10, b"01 15 05 00 00 00 00 0A 25");
+    let t = command(t, b"JA 10", 22, 0, 0, 10, b"01 16 00 00 00 00 00 0A 21");
+    let t = command(t, b"CSUB 100", 23, 0, 0, 100, b"01 17 00 00 00 00 00 64 7C");
+    let t = command(t, b"RSUB", 24, 0, 0, 0, b"01 18 00 00 00 00 00 00 19");
+    let t = command(
+        t,
+        b"WAIT POS, 0, 0",
+        27,
+        1,
+        0,
+        0,
+        b"01 1B 01 00 00 00 00 00 1D",
+    );
+    command(t, b"STOP", 28, 0, 0, 0, b"01 1C 00 00 00 00 00 00 1D")
+}
+
+// 3.6.23 to 3.6.26.
+fn accumulator(t: Tally) -> Tally {
+    let t = command(t, b"CALCX MUL", 33, 2, 0, 0, b"01 21 02 00 00 00 00 00 24");
+    let t = command(t, b"AAP 0, 0", 34, 0, 0, 0, b"01 22 00 00 00 00 00 00 23");
+    let t = command(t, b"AGP 42, 2", 35, 42, 2, 0, b"01 23 2A 02 00 00 00 00 50");
+    command(t, b"CLE ETO", 36, 1, 0, 0, b"01 24 01 00 00 00 00 00 26")
+}
+
+fn main() {
+    let t = Tally {
+        commands: 0,
+        replies: 0,
+        different: 0,
+    };
+    let t = accumulator(flow(ports_and_numbers(parameters(motion(t)))));
+    number(t.commands);
+    text(b" commands and ");
+    number(t.replies);
+    text(b" replies, ");
+    number(t.different);
+    text(b" different\n");
+}

@@ -1,6 +1,6 @@
 // Every binary command and every reply that document 000 prints in its chapters 2 and 3: built and
-// read by the display's functions, compared with the printed bytes, and each command taken back by
-// the board's frame. A line for each, and a line with the counts.
+// read by the display's functions, compared with the printed bytes, and handed back by the board's
+// frames. A line for each, and a line with the counts.
 mod print;
 
 use display::Received;
@@ -20,7 +20,7 @@ struct Tally {
     different: u64,
 }
 
-// Starts a line, and counts it where it is different.
+// Starts a line, and counts it where something is different.
 fn line(t: Tally, same: bool, name: &[u8]) -> Tally {
     let mut next = t;
     if same {
@@ -34,19 +34,13 @@ fn line(t: Tally, same: bool, name: &[u8]) -> Tally {
     next
 }
 
-// The board at address 1 takes the frame as this command.
-fn taken_as(frame: &[u8], command: Command) -> bool {
-    let taken = wire::take_command(frame, 1);
-    match taken {
-        Taken::NotOurs => false,
-        Taken::Damaged(_) => false,
-        Taken::Whole(c) => {
-            c.number == command.number
-                && c.kind == command.kind
-                && c.motor == command.motor
-                && c.value.v == command.value.v
-        }
+// What the board at address 1 takes from a frame, built again: nine zeros where it takes nothing.
+fn taken_again(frame: [u8; 9]) -> [u8; 9] {
+    let mut again = [0u8; 9];
+    if let Taken::Whole(c) = wire::take_command(&frame, 1) {
+        display::build_command(&mut again, 1, c);
     }
+    again
 }
 
 // A command to address 1 against its bytes as printed.
@@ -59,19 +53,20 @@ fn command(
     value: i32,
     printed: &[u8],
 ) -> Tally {
-    let word = Word { v: value };
+    let value = Word { v: value };
     let sent = Command {
         number: number,
         kind: kind,
         motor: motor,
-        value: word,
+        value: value,
     };
     let mut frame = [0u8; 9];
     display::build_command(&mut frame, 1, sent);
     let bytes = spelled(frame);
+    let again = spelled(taken_again(frame));
     let mut next = line(
         t,
-        check::same(&bytes, printed) && taken_as(&frame, sent),
+        check::same(&bytes, printed) && check::same(&again, printed),
         name,
     );
     text(&bytes);
@@ -81,11 +76,11 @@ fn command(
 }
 
 // A misprinted frame, which the board refuses with 1.
-fn misprinted(t: Tally, name: &[u8], frame: [u8; 9]) -> Tally {
-    let refused = match wire::take_command(&frame, 1) {
-        Taken::NotOurs => false,
-        Taken::Damaged(_) => true,
-        Taken::Whole(_) => false,
+fn misprint(t: Tally, name: &[u8], frame: [u8; 9]) -> Tally {
+    let refused = if let Taken::Damaged(_) = wire::take_command(&frame, 1) {
+        true
+    } else {
+        false
     };
     let next = line(t, refused, name);
     text(&spelled(frame));
@@ -93,46 +88,36 @@ fn misprinted(t: Tally, name: &[u8], frame: [u8; 9]) -> Tally {
     next
 }
 
-// A printed reply from address 1 to address 2 with status 100, against what its example says.
-fn reply(t: Tally, name: &[u8], command: u8, value: i32, printed: [u8; 9]) -> Tally {
+// A printed reply against the value that its example names, and put together again by the board.
+fn reply(t: Tally, name: &[u8], value: i32, printed: [u8; 9]) -> Tally {
     let mut next = t;
-    match display::read_reply(&printed) {
-        Received::Whole(r) => {
-            let v = r.value.v;
-            let same = r.reply_address == 2
-                && r.module_address == 1
-                && r.status == 100
-                && r.command == command
-                && v == value;
-            next = line(t, same, name);
-            fields(r);
-        }
-        Received::Length => {
-            next = line(t, false, name);
-            text(b"refused with 20");
-        }
-        Received::Checksum => {
-            next = line(t, false, name);
-            text(b"refused with 1");
-        }
+    let mut again = [0u8; 9];
+    if let Received::Whole(r) = display::read_reply(&printed) {
+        wire::put_reply(&mut again, r);
+        next = line(t, check::same(&again, &printed) && r.value.v == value, name);
+        fields(r);
+    } else {
+        next = line(t, false, name);
+        text(b"refused\n");
     }
-    text(b"\n");
     next.replies = wrapping_add_u64(next.replies, 1);
     next
 }
 
+fn field(name: &[u8], n: u8) {
+    text(name);
+    number(n as u64);
+}
+
 fn fields(r: Reply) {
-    text(b"to ");
-    number(r.reply_address as u64);
-    text(b", from ");
-    number(r.module_address as u64);
-    text(b", status ");
-    number(r.status as u64);
-    text(b", command ");
-    number(r.command as u64);
+    field(b"to ", r.reply_address);
+    field(b", from ", r.module_address);
+    field(b", status ", r.status);
+    field(b", command ", r.command);
     text(b", value ");
     let value = r.value;
     signed(value);
+    text(b"\n");
 }
 
 // 3.6.1 to 3.6.4.
@@ -190,9 +175,9 @@ fn parameters(t: Tally) -> Tally {
     let t = command(t, b"GAP 1, 0", 6, 1, 0, 0, b"01 06 01 00 00 00 00 00 08");
     let t = command(t, b"STAP 6, 12", 7, 6, 0, 0, b"01 07 06 00 00 00 00 00 0E");
     let t = command(t, b"RSAP 8, 6", 8, 6, 0, 0, b"01 08 06 00 00 00 00 00 0F");
-    let t = misprinted(
+    let t = misprint(
         t,
-        b"RSAP 8, 6 as printed, refused with 1",
+        b"RSAP 8, 6 as printed is refused with 1",
         [0x01, 0x08, 0x06, 0x00, 0x00, 0x00, 0x00, 0x00, 0x0A],
     );
     let t = command(
@@ -240,7 +225,6 @@ fn ports_and_numbers(t: Tally) -> Tally {
     let t = reply(
         t,
         b"reply to GIO 0, 1",
-        15,
         302,
         [0x02, 0x01, 0x64, 0x0F, 0x00, 0x00, 0x01, 0x2E, 0xA5],
     );
@@ -256,7 +240,6 @@ fn ports_and_numbers(t: Tally) -> Tally {
     let t = reply(
         t,
         b"reply to CALC MUL, -5000",
-        19,
         -5000,
         [0x02, 0x01, 0x64, 0x13, 0xFF, 0xFF, 0xEC, 0x78, 0xDC],
     );

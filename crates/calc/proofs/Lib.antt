@@ -1,2 +1,2 @@
-pub mod Whole
-pub mod Wraps
+pub mod Examples
+pub mod Divisor

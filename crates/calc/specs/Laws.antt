@@ -1,24 +1,11 @@
--- What a user of CALC's operations relies on, and worked examples: 01's "Proved table" has lines 7 and 8.
+-- Worked examples: line 7 of 01's "Proved table" is among them. `negsuc n` is -(n + 1).
 use mathlib.Core.Path.{_≡_}
-use lib.IntN.{ℤ, pos, negsuc, _+ℤ_}
-use mir.Syntax.{w32}
-use mir.Val.{SFits}
+use lib.IntN.{pos, negsuc}
 use Rattle.words.specs.Word.{word}
-use Rattle.calc.specs.Calc.{wrap, addW, subW, mulW, dividedW, remainderW, dividedStatus, andW, orW, xorW, notW}
-use Rattle.calc.specs.declared.Divided.the-variants.{Done, ByZero}
+use Rattle.calc.specs.Calc.{dividedW, remainderW, dividedStatus, andW, orW, xorW, notW}
+use Rattle.calc.specs.declared.Divided.the-variants.{Done}
 
--- To wrap at 32 bits: the result is a word, a word stays, and 2^32 more or less is the same word.
-pub record Wraps : Type 0 where
-  pub is-word : (z : ℤ) → SFits w32 (wrap z)
-  pub stays : (z : ℤ) → SFits w32 z → wrap z ≡ z
-  pub turns : (z : ℤ) → wrap (z +ℤ pos 4294967296) ≡ wrap z
-
--- `negsuc n` is -(n + 1)
-pub record Examples : Type 0 where
-  -- 65536 MUL 65536 is 0; 2147483647 ADD 1 is -2147483648
-  pub mul-wraps : mulW (pos 65536) (pos 65536) ≡ pos 0
-  pub add-wraps : addW (pos 2147483647) (pos 1) ≡ negsuc 2147483647
-  pub sub-wraps : subW (negsuc 2147483647) (pos 1) ≡ pos 2147483647
+pub record Laws : Type 0 where
   -- -7 DIV 2 is -3, MOD -1
   pub div-seven : dividedW (negsuc 6) (pos 2) ≡ Done (word (negsuc 2))
   pub mod-seven : remainderW (negsuc 6) (pos 2) ≡ Done (word (negsuc 0))
@@ -28,7 +15,7 @@ pub record Examples : Type 0 where
   -- -2147483648 by -1 gives -2147483648 and 0
   pub div-least : dividedW (negsuc 2147483647) (negsuc 0) ≡ Done (word (negsuc 2147483647))
   pub mod-least : remainderW (negsuc 2147483647) (negsuc 0) ≡ Done (word (pos 0))
-  -- a zero divisor 4
+  -- zero divisor 4
   pub div-zero : dividedStatus (dividedW (pos 5) (pos 0)) ≡ 4
   pub mod-zero : dividedStatus (remainderW (pos 5) (pos 0)) ≡ 4
   -- -1 AND 12 is 12, -8 OR 5 is -3, -1 XOR 5 is -6, NOT 0 is -1
@@ -36,7 +23,3 @@ pub record Examples : Type 0 where
   pub or-sign : orW (negsuc 7) (pos 5) ≡ negsuc 2
   pub xor-ones : xorW (negsuc 0) (pos 5) ≡ negsuc 5
   pub not-zero : notW (pos 0) ≡ negsuc 0
-
-pub record Laws : Type 0 where
-  pub wraps : Wraps
-  pub examples : Examples

@@ -2,8 +2,8 @@
 ghost use mathlib.Core.Path.{_≡_};
 ghost use Rattle.calc.specs.Calc.{dividedW, remainderW};
 use crate::Divided;
-use crate::wrapping::wrapped;
 use words::Word;
+use wrapping::wrapped;
 
 pub fn div(a: Word, b: Word) -> Divided
     ensures { λ r. ⌜ r ≡ dividedW (a .v) (b .v) ⌝ }

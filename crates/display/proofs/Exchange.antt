@@ -13,12 +13,12 @@ use mir.Val.{SFits}
 use Rattle.words.specs.Word.{pick, word}
 use Rattle.words.specs.Bytes.{wordOf, wordAt}
 use Rattle.words.specs.Laws.{AllBytes}
-use Rattle.wire.specs.Frame.{frame, rightFrame, commandAt, commandFrame, replyFrame, takenOf}
+use Rattle.wire.specs.Frame.{frame, rightFrame, commandAt, commandFrame, replyFrame}
 use Rattle.wire.specs.Laws.{Changed}
 use Rattle.wire.specs.declared.Command.{Command}
 use Rattle.wire.specs.declared.Reply.{Reply}
-use Rattle.wire.specs.declared.Taken.{Taken}
-use Rattle.wire.specs.declared.Taken.the-variants.{NotOurs, Damaged, Whole}
+use Rattle.serial.specs.Serial.{takenOf}
+use Rattle.serial.specs.declared.Taken.the-variants.{NotOurs, Damaged, Whole}
 use Rattle.wire.proofs.Frames.{made-right, made-value, right-parts, right-made, one-changed}
 use Rattle.display.specs.Display.{Answer, replyOf, readOf, answerOf, done, refused}
 use Rattle.display.specs.Laws as Claims

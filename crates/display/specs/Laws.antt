@@ -9,11 +9,12 @@ use mir.Syntax.{w32}
 use mir.Val.{SFits}
 use Rattle.words.specs.Word.{pick, word}
 use Rattle.words.specs.Laws.{AllBytes}
-use Rattle.wire.specs.Frame.{commandFrame, replyFrame, takenOf}
+use Rattle.wire.specs.Frame.{commandFrame, replyFrame}
 use Rattle.wire.specs.Laws.{Changed}
 use Rattle.wire.specs.declared.Command.{Command}
 use Rattle.wire.specs.declared.Reply.{Reply}
-use Rattle.wire.specs.declared.Taken.the-variants.{NotOurs, Damaged, Whole}
+use Rattle.serial.specs.Serial.{takenOf}
+use Rattle.serial.specs.declared.Taken.the-variants.{NotOurs, Damaged, Whole}
 use Rattle.display.specs.Display.{answerOf, readOf, done, refused}
 use Rattle.display.specs.declared.Received.{Received}
 

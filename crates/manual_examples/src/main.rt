@@ -8,10 +8,10 @@ use print::number;
 use print::signed;
 use print::spelled;
 use print::text;
+use serial::Taken;
 use std::num::wrapping_add_u64;
 use wire::Command;
 use wire::Reply;
-use wire::Taken;
 use words::Word;
 
 struct Tally {
@@ -37,7 +37,7 @@ fn line(t: Tally, same: bool, name: &[u8]) -> Tally {
 // What the board at address 1 takes from a frame, built again: nine zeros where it takes nothing.
 fn taken_again(frame: [u8; 9]) -> [u8; 9] {
     let mut again = [0u8; 9];
-    if let Taken::Whole(c) = wire::take_command(&frame, 1) {
+    if let Taken::Whole(c) = serial::take_command(&frame, 1) {
         display::build_command(&mut again, 1, c);
     }
     again
@@ -77,7 +77,7 @@ fn command(
 
 // A misprinted frame, which the board refuses with 1.
 fn misprint(t: Tally, name: &[u8], frame: [u8; 9]) -> Tally {
-    let refused = if let Taken::Damaged(_) = wire::take_command(&frame, 1) {
+    let refused = if let Taken::Damaged(_) = serial::take_command(&frame, 1) {
         true
     } else {
         false
@@ -93,7 +93,7 @@ fn reply(t: Tally, name: &[u8], value: i32, printed: [u8; 9]) -> Tally {
     let mut next = t;
     let mut again = [0u8; 9];
     if let Received::Whole(r) = display::read_reply(&printed) {
-        wire::put_reply(&mut again, r);
+        serial::put_reply(&mut again, r);
         next = line(t, check::same(&again, &printed) && r.value.v == value, name);
         fields(r);
     } else {

@@ -12,8 +12,6 @@ use Rattle.wire.specs.declared.Command.{Command}
 use Rattle.wire.specs.declared.Reply.{Reply}
 use Rattle.wire.specs.declared.Written.{Written}
 use Rattle.wire.specs.declared.Written.the-variants.{Done, Length}
-use Rattle.wire.specs.declared.Taken.{Taken}
-use Rattle.wire.specs.declared.Taken.the-variants.{NotOurs, Damaged, Whole}
 
 abbrev pub total : List ℕ → ℕ
 total [] = 0
@@ -61,16 +59,3 @@ rightFrame s = eqb (length s) 9 && eqb (checksum (take 8 s)) (getD s 8 0)
 abbrev pub commandAt : List ℕ → ℕ → Command
 commandAt s at =
     record { number = getD s at 0; kind = getD s (at + 1) 0; motor = getD s (at + 2) 0; value = word (wordAt s (at + 3)) }
-
--- "length, address, 1": no reply to another length or another address; then the checksum; then the command
-unfoldable pub takenOf : ℕ → List ℕ → Taken
-takenOf ours s =
-    pick (eqb (length s) 9)
-    (pick (eqb (getD s 0 0) ours) (pick (rightFrame s) (Whole (commandAt s 1)) (Damaged (getD s 1 0))) NotOurs)
-    NotOurs
-
--- the status of a datagram whose command, where there is one, gets the status `own`: "none" is 0
-abbrev pub takenStatus : ℕ → Taken → ℕ
-takenStatus own NotOurs = 0
-takenStatus own (Damaged n) = 1
-takenStatus own (Whole c) = own

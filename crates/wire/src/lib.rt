@@ -7,12 +7,9 @@
 // them, or none, has the same command beneath it.
 ghost use Rattle.wire.specs.Laws.{Laws};
 
-mod board;
 mod checksum;
 mod frame;
 
-pub use board::put_reply;
-pub use board::take_command;
 pub use checksum::is_right;
 pub use frame::command_at;
 pub use frame::put_frame;
@@ -39,15 +36,6 @@ pub enum Written {
     Done,
     // The buffer has another length, and is as it was.
     Length,
-}
-
-// What the board makes of a datagram.
-pub enum Taken {
-    // Of another length, or to another address: no reply.
-    NotOurs,
-    // A wrong checksum: the reply names the command as received.
-    Damaged(u8),
-    Whole(Command),
 }
 
 // The laws of frames, held to be proved: the function does nothing.

@@ -4,7 +4,7 @@ use lib.IntN.{ℤ}
 use Rattle.words.specs.Word.{word}
 use Rattle.calc.specs.declared.Divided.the-variants.{Done}
 use borrow.Author.Needs.{needs}
-use Rattle.calc.proofs.Whole.{signed, rem-cut, zero-yes, zero-no}
+use Rattle.calc.proofs.Divisor.{dividing, rem-cut, zero-yes, zero-no}
 use Rattle.calc.proofs.dividing.modulo.Statement.{statement}
 use Rattle.calc.proofs.dividing.modulo.Tie as tie
 
@@ -22,9 +22,9 @@ pub modulo-spec : {M : Type 1} → statement M
 modulo-spec =
     tie.close
     (tie.spec
-    (λ c. search signed)
-    (λ c. search signed)
-    (λ c. search signed)
-    (λ c. search signed)
+    (λ c. search dividing)
+    (λ c. search dividing)
+    (λ c. search dividing)
+    (λ c. search dividing)
     returns
     returns-2)

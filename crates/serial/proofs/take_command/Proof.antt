@@ -1,11 +1,11 @@
--- `wire::board::take_command` meets its contract: each return by the tests that led to it. Assumes nothing.
+-- `serial::take_command` meets its contract: each return by the tests that led to it. Assumes nothing.
 use mathlib.Core.Path.{sym, _∙_}
 use borrow.Author.Needs.{needs}
 use borrow.Author.Tests.{eq-eqb, ne-eqb}
 use lib.ListN.{length, getD}
-use Rattle.wire.specs.Frame.{takenOf}
-use Rattle.wire.proofs.board.take_command.Statement.{statement}
-use Rattle.wire.proofs.board.take_command.Tie as tie
+use Rattle.serial.specs.Serial.{takenOf}
+use Rattle.serial.proofs.take_command.Statement.{statement}
+use Rattle.serial.proofs.take_command.Tie as tie
 
 returns : tie.Need-returns
 unfolding takenOf

@@ -10,10 +10,9 @@ use lib.IntN.{ℤ, pos, negsuc, natAbs, negℤ, subℕ, _+ℤ_, _*ℤ_}
 use lib.Signed.{mag, mag-rem, natAbs-le, leZ, quotZ, remZ}
 use mir.Syntax.{w32, w64}
 use mir.Val.{SFits, ofZ, toZ}
-use mir.ValLaws.{toZ-ofZ, toZ-fits}
+use mir.ValLaws.{toZ-ofZ}
 use borrow.Author.Needs.{needs}
-use borrow.Author.Tests.{eq-eqb, ne-eqb}
-use Rattle.calc.specs.Calc.{low, wrap, isZero}
+use Rattle.wrapping.specs.Wrap.{low}
 use Rattle.words.proofs.Signed.{test-sign, down}
 
 pub widen : {z : ℤ} → SFits w32 z → SFits w64 z
@@ -71,27 +70,6 @@ quot-whole a b f = record { sfits = omega (arith, mag-quot a b, natAbs-le a (f .
 pub rem-word : (a b : ℤ) → SFits w32 a → SFits w32 (remZ a b)
 rem-word a b f = record { sfits = omega (arith, mag-rem a b, f .sfits) }
 
--- a remainder at 64 bits, cut back to a word
-pub rem-cut : (a b : ℤ) → SFits w32 a → SFits w32 b
-    → toZ w32 (ofZ w32 (toZ w64 (ofZ w64 (remZ (toZ w64 (ofZ w64 (toZ w32 (ofZ w32 a)))) (toZ w64 (ofZ w64 (toZ w32 (ofZ w32 b)))))))) ≡ remZ a b
-rem-cut a b f g =
-    let h = rem-word a b f in
-    rw (toZ-ofZ w32 a f, toZ-ofZ w32 b g, toZ-ofZ w64 a (widen f), toZ-ofZ w64 b (widen g), toZ-ofZ w64 (remZ a b) (widen h), toZ-ofZ w32 (remZ a b) h)
-
--- ---- a divisor: the machine compares its bits with 0
-pub zero-yes : (b : ℤ) → SFits w32 b → ofZ w32 b ≡ 0 → isZero b ≡ true
-zero-yes (pos n) f h = eq-eqb n 0 h
-zero-yes (negsuc n) f h = absurd (omega (arith, f .sfits, h))
-
-pub zero-no : (b : ℤ) → (ofZ w32 b ≡ 0 → ⊥) → isZero b ≡ false
-zero-no (pos n) h = ne-eqb n 0 h
-zero-no (negsuc n) h = refl
-
-pub divisor : (b : ℤ) → SFits w32 b → (ofZ w32 b ≡ 0 → ⊥) → 0 < ofZ w64 b
-divisor (pos zero) f h = absurd (h refl)
-divisor (pos (suc n)) f h = omega arith
-divisor (negsuc n) f h = omega (arith, f .sfits)
-
 -- ---- the lowest 32 bits, as `wrapped` finds them
 low-pos : (z : ℤ) → leZ (pos 0) z ≡ true → natAbs z % 4294967296 ≡ low z
 low-pos (pos n) h = refl
@@ -108,4 +86,4 @@ pub low-down : (z : ℤ) → SFits w64 z → leZ (pos 0) (toZ w64 (ofZ w64 z)) �
 low-down z f h = rw (down w64 z f h) (low-neg z (test-sign w64 z f h))
 
 -- the list for a `search` at a need of an operation on words
-pub ruleset signed = (widen, add-whole, sub-whole, mul-whole, divisor, quot-whole, rem-word, needs)
+pub ruleset signed = (widen, add-whole, sub-whole, mul-whole, quot-whole, rem-word, needs)

@@ -1,12 +1,22 @@
 // The board's side of a serial line: a command taken apart, a reply put together.
 ghost use mathlib.Core.Path.{_≡_};
-ghost use Rattle.wire.specs.Frame.{writtenStatus, writeStatus, written, replyFrame, takenOf};
-use crate::Reply;
-use crate::Taken;
-use crate::Written;
-use crate::checksum::is_right;
-use crate::frame::command_at;
-use crate::frame::put_frame;
+ghost use Rattle.wire.specs.Frame.{writtenStatus, writeStatus, written, replyFrame};
+ghost use Rattle.serial.specs.Serial.{takenOf};
+use wire::Command;
+use wire::Reply;
+use wire::Written;
+use wire::command_at;
+use wire::is_right;
+use wire::put_frame;
+
+// What the board makes of a datagram.
+pub enum Taken {
+    // Of another length, or to another address: no reply.
+    NotOurs,
+    // A wrong checksum: the reply names the command as received.
+    Damaged(u8),
+    Whole(Command),
+}
 
 // What a datagram of any length is to the board whose address is `ours`.
 pub fn take_command(s: &[u8], ours: u8) -> Taken

@@ -1,15 +1,15 @@
--- `calc::wrapping::wrapped` meets its contract. Assumes nothing.
+-- `wrapping::wrapped` meets its contract. Assumes nothing.
 use mathlib.Core.Path.{_∙_, ap}
 use Prim.Native.Nat.{ℕ}
 use borrow.Author.Needs.{needs}
 use mir.Syntax.{w32, w64}
 use mir.Val.{toZ}
 use Rattle.words.specs.Word.{word}
-use Rattle.calc.specs.Calc.{wrap}
+use Rattle.wrapping.specs.Wrap.{wrap}
 use Rattle.words.proofs.Signed.{up-cast, down-cast}
-use Rattle.calc.proofs.Whole.{low-up, low-down}
-use Rattle.calc.proofs.wrapping.wrapped.Statement.{statement}
-use Rattle.calc.proofs.wrapping.wrapped.Tie as tie
+use Rattle.wrapping.proofs.Whole.{low-up, low-down}
+use Rattle.wrapping.proofs.wrapped.Statement.{statement}
+use Rattle.wrapping.proofs.wrapped.Tie as tie
 
 cast-of-bits : tie.Need-cast-of-bits
 cast-of-bits c = up-cast w64 (c .before .args .z) (c .before .fits .z) (c .if1 .taken)

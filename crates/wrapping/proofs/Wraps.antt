@@ -1,4 +1,4 @@
--- `wrap` is the one way to wrap at 32 bits, and CALC's operations compute. Assumes nothing.
+-- `wrap` is the one way to wrap at 32 bits, and the worked examples compute. Assumes nothing.
 use mathlib.Core.Path.{_≡_, refl, ap, _∙_}
 use mathlib.Core.Bool.{Bool, true, false, cond}
 use Prim.Native.Nat.{ℕ, suc, _+_, _-_, _%_, _≤_, _<_}
@@ -9,8 +9,8 @@ use mir.Syntax.{w32}
 use mir.Val.{SFits, ofZ, toZ}
 use mir.ValLaws.{toZ-ofZ, toZ-fits}
 use borrow.Author.Tests.{ltb-true, ltb-false}
-use Rattle.calc.specs.Calc.{low, wrap}
-use Rattle.calc.specs.Laws as Claims
+use Rattle.wrapping.specs.Wrap.{low, wrap}
+use Rattle.wrapping.specs.Laws.{Laws}
 
 low-lt : (z : ℤ) → low z < 4294967296
 low-lt (pos n) = omega arith
@@ -40,26 +40,14 @@ pub wrap-turns : (z : ℤ) → wrap (z +ℤ pos 4294967296) ≡ wrap z
 unfolding wrap
 wrap-turns z = ap (toZ w32) (low-turns z)
 
-pub examples : Claims.Examples
+pub laws : Laws
 unfolding wrap
-examples =
+laws =
     record {
+      is-word = wrap-word;
+      stays = wrap-stays;
+      turns = wrap-turns;
       mul-wraps = refl;
       add-wraps = refl;
       sub-wraps = refl;
-      div-seven = refl;
-      mod-seven = refl;
-      div-turned = refl;
-      mod-turned = refl;
-      div-least = refl;
-      mod-least = refl;
-      div-zero = refl;
-      mod-zero = refl;
-      and-ones = refl;
-      or-sign = refl;
-      xor-ones = refl;
-      not-zero = refl;
     }
-
-pub laws : Claims.Laws
-laws = record { wraps = record { is-word = wrap-word; stays = wrap-stays; turns = wrap-turns }; examples = examples }

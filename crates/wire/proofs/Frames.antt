@@ -15,7 +15,7 @@ use Rattle.words.specs.declared.Four.{Four}
 use Rattle.words.specs.Bytes.{fourOf, fourAt, wordAt}
 use Rattle.words.specs.Laws.{AllBytes, FourBytes}
 use Rattle.words.proofs.Trips.{split-join, join-split}
-use Rattle.wire.specs.Frame.{total, checksum, eight, summed, frame, rightFrame, writtenStatus}
+use Rattle.wire.specs.Frame.{total, checksum, seven, summed, frame, rightFrame, writtenStatus}
 use Rattle.wire.specs.Laws.{Changed, Laws}
 use Rattle.wire.specs.declared.Written.{Written}
 use Rattle.wire.specs.declared.Written.the-variants.{Done, Length}
@@ -23,7 +23,7 @@ use Rattle.wire.proofs.Nine.{nine}
 
 pub made-right : (a b c d : ℕ) (v : ℤ) → rightFrame (frame a b c d v) ≡ true
 unfolding rightFrame frame
-made-right a b c d v = let sum = checksum (eight a b c d (fourOf v)) in eq-eqb sum sum refl
+made-right a b c d v = let sum = checksum (a ∷ seven b c d (fourOf v)) in eq-eqb sum sum refl
 
 pub made-value : (a b c d : ℕ) (v : ℤ) → SFits w32 v → wordAt (frame a b c d v) 4 ≡ v
 unfolding frame
@@ -52,7 +52,7 @@ made : (a b c d e f g h i : ℕ) → Made (a ∷ b ∷ c ∷ d ∷ e ∷ f ∷ g
 unfolding frame
 made a b c d e f g h i k r =
     let v = fourAt (a ∷ b ∷ c ∷ d ∷ e ∷ f ∷ g ∷ h ∷ i ∷ []) 4 in
-    ap (λ (w : Four). summed (eight a b c d w)) (join-split v (record { b3 = k 4; b2 = k 5; b1 = k 6; b0 = k 7 }))
+    ap (λ (w : Four). summed (a ∷ seven b c d w)) (join-split v (record { b3 = k 4; b2 = k 5; b1 = k 6; b0 = k 7 }))
     ∙ ap (λ (n : ℕ). a ∷ b ∷ c ∷ d ∷ e ∷ f ∷ g ∷ h ∷ n ∷ []) r
 
 pub right-made : (s : List ℕ) → AllBytes s → rightFrame s ≡ true → frame (getD s 0 0) (getD s 1 0) (getD s 2 0) (getD s 3 0) (wordAt s 4) ≡ s

@@ -21,16 +21,16 @@ total (x ∷ xs) = x + total xs
 abbrev pub checksum : List ℕ → ℕ
 checksum xs = total xs % 256
 
--- four bytes and those of a value
-abbrev pub eight : ℕ → ℕ → ℕ → ℕ → Four → List ℕ
-eight a b c d v = a ∷ b ∷ c ∷ d ∷ v .b3 ∷ v .b2 ∷ v .b1 ∷ v .b0 ∷ []
+-- seven bytes: three, and those of a value, most significant first
+abbrev pub seven : ℕ → ℕ → ℕ → Four → List ℕ
+seven b c d v = b ∷ c ∷ d ∷ v .b3 ∷ v .b2 ∷ v .b1 ∷ v .b0 ∷ []
 
 abbrev pub summed : List ℕ → List ℕ
 summed xs = xs ++ (checksum xs ∷ [])
 
--- a frame: four bytes, a value, most significant first, and the checksum
+-- a frame of a serial line: an address before the seven bytes, and the checksum after them
 unfoldable pub frame : ℕ → ℕ → ℕ → ℕ → ℤ → List ℕ
-frame a b c d v = summed (eight a b c d (fourOf v))
+frame a b c d v = summed (a ∷ seven b c d (fourOf v))
 
 -- "Command: address, command, type, motor or bank, value (4, signed, most significant first), checksum."
 abbrev pub commandFrame : ℕ → Command → List ℕ

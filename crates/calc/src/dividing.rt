@@ -1,17 +1,19 @@
-// Division toward zero, and its remainder. At 64 bits the least word by -1 is no special case.
+// Division toward zero, and its remainder, at 32 bits. The divisor -1 has a branch of its own: the
+// quotient of -2147483648 by it is no word, and wraps.
 ghost use mathlib.Core.Path.{_≡_};
 ghost use Rattle.calc.specs.Calc.{dividedW, remainderW};
 use crate::Divided;
 use words::Word;
-use wrapping::wrapped;
 
 pub fn div(a: Word, b: Word) -> Divided
     ensures { λ r. ⌜ r ≡ dividedW (a .v) (b .v) ⌝ }
 {
     if b.v == 0 {
         Divided::ByZero
+    } else if b.v == -1 {
+        Divided::Done(wrapping::sub(Word { v: 0 }, a))
     } else {
-        Divided::Done(wrapped((a.v as i64) / (b.v as i64)))
+        Divided::Done(Word { v: a.v / b.v })
     }
 }
 
@@ -21,9 +23,9 @@ pub fn modulo(a: Word, b: Word) -> Divided
 {
     if b.v == 0 {
         Divided::ByZero
+    } else if b.v == -1 {
+        Divided::Done(Word { v: 0 })
     } else {
-        Divided::Done(Word {
-            v: ((a.v as i64) % (b.v as i64)) as i32,
-        })
+        Divided::Done(Word { v: a.v % b.v })
     }
 }

@@ -1,13 +1,13 @@
--- Sums, differences, products, quotients and remainders of words are whole at 64 bits; and the lowest 32 bits of what
--- is whole there. Assumes nothing.
+-- Sums, differences and products of words are whole at 64 bits; and the lowest 32 bits of what is whole there. Assumes
+-- nothing.
 use mathlib.Core.Path.{_≡_, refl}
 use mathlib.Core.Bool.{Bool, true, false, cond}
-use Prim.Native.Nat.{ℕ, zero, suc, _+_, _-_, _*_, _/_, _%_, _≤_, _<_}
+use Prim.Native.Nat.{ℕ, zero, suc, _+_, _-_, _*_, _%_, _≤_, _<_}
 use native.Mathlib.Omega.{arith}
-use native.Mathlib.Nat.{mul-le-mul-left, mul-le-mul-right, le-trans, div-le-self}
+use native.Mathlib.Nat.{mul-le-mul-left, mul-le-mul-right, le-trans}
 use lib.Dec.{ltb, leb·zero}
 use lib.IntN.{ℤ, pos, negsuc, natAbs, negℤ, subℕ, _+ℤ_, _*ℤ_}
-use lib.Signed.{mag, mag-rem, natAbs-le, leZ, quotZ, remZ}
+use lib.Signed.{mag, leZ}
 use mir.Syntax.{w32, w64}
 use mir.Val.{SFits, ofZ, toZ}
 use mir.ValLaws.{toZ-ofZ}
@@ -49,12 +49,6 @@ mag-mul (pos a) (negsuc b) h g = mag-neg (a * suc b) (prod (omega arith) (omega 
 mag-mul (negsuc a) (pos b) h g = mag-neg (suc a * b) (prod (omega arith) (omega arith))
 mag-mul (negsuc a) (negsuc b) h g = prod (omega arith) (omega arith)
 
-mag-quot : (a b : ℤ) → mag (quotZ a b) ≤ natAbs a
-mag-quot (pos a) (pos b) = div-le-self a b
-mag-quot (pos a) (negsuc b) = mag-neg (a / suc b) (div-le-self a (suc b))
-mag-quot (negsuc a) (pos b) = mag-neg (suc a / b) (div-le-self (suc a) b)
-mag-quot (negsuc a) (negsuc b) = div-le-self (suc a) (suc b)
-
 pub add-whole : (a b : ℤ) → SFits w32 a → SFits w32 b → SFits w64 (a +ℤ b)
 add-whole a b f g = record { sfits = omega (arith, mag-add a b (f .sfits) (g .sfits)) }
 
@@ -63,12 +57,6 @@ sub-whole a b f g = record { sfits = omega (arith, mag-add a (negℤ b) {k = 214
 
 pub mul-whole : (a b : ℤ) → SFits w32 a → SFits w32 b → SFits w64 (a *ℤ b)
 mul-whole a b f g = record { sfits = omega (arith, mag-mul a b (f .sfits) (g .sfits)) }
-
-pub quot-whole : (a b : ℤ) → SFits w32 a → SFits w64 (quotZ a b)
-quot-whole a b f = record { sfits = omega (arith, mag-quot a b, natAbs-le a (f .sfits)) }
-
-pub rem-word : (a b : ℤ) → SFits w32 a → SFits w32 (remZ a b)
-rem-word a b f = record { sfits = omega (arith, mag-rem a b, f .sfits) }
 
 -- ---- the lowest 32 bits, as `wrapped` finds them
 low-pos : (z : ℤ) → leZ (pos 0) z ≡ true → natAbs z % 4294967296 ≡ low z
@@ -86,4 +74,4 @@ pub low-down : (z : ℤ) → SFits w64 z → leZ (pos 0) (toZ w64 (ofZ w64 z)) �
 low-down z f h = rw (down w64 z f h) (low-neg z (test-sign w64 z f h))
 
 -- the list for a `search` at a need of an operation on words
-pub ruleset signed = (widen, add-whole, sub-whole, mul-whole, quot-whole, rem-word, needs)
+pub ruleset signed = (widen, add-whole, sub-whole, mul-whole, needs)

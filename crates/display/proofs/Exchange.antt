@@ -17,7 +17,7 @@ use Rattle.wire.specs.Frame.{frame, rightFrame, commandAt, commandFrame, replyF
 use Rattle.wire.specs.Laws.{Changed}
 use Rattle.wire.specs.declared.Command.{Command}
 use Rattle.wire.specs.declared.Reply.{Reply}
-use Rattle.serial.specs.Serial.{takenOf}
+use Rattle.serial.specs.Serial.{takenOf, takenStatus}
 use Rattle.serial.specs.declared.Taken.the-variants.{NotOurs, Damaged, Whole}
 use Rattle.wire.proofs.Frames.{made-right, made-value, right-parts, right-made, one-changed}
 use Rattle.display.specs.Display.{Answer, replyOf, readOf, answerOf, done, refused}
@@ -88,11 +88,19 @@ pub command-changed : (ours : ℕ) (s : List ℕ) (i b : ℕ) → Changed s i b 
 unfolding takenOf
 command-changed o s i b k = simp (eq-eqb (length (set s i b)) 9 (length-changed s i b k), one-changed s i b k)
 
+status : (own n : ℕ) (t : Bool) → takenStatus own (pick t (Damaged n) NotOurs) ≡ pick t 1 0
+status own n true = refl
+status own n false = refl
+
+pub changed-status : (own ours : ℕ) (s : List ℕ) (i b : ℕ) → Changed s i b → takenStatus own (takenOf ours (set s i b)) ≡ pick (eqb (getD (set s i b) 0 0) ours) 1 0
+changed-status own o s i b k =
+    ap (takenStatus own) (command-changed o s i b k) ∙ status own (getD (set s i b) 1 0) (eqb (getD (set s i b) 0 0) o)
+
 pub reply-changed : (s : List ℕ) (i b : ℕ) → Changed s i b → readOf (set s i b) ≡ refused 1
 unfolding readOf
 reply-changed s i b k = simp (eq-eqb (length (set s i b)) 9 (length-changed s i b k), one-changed s i b k)
 
-two-pass : takenOf 1 (set (set (commandFrame 1 Claims.sapFour) 1 4) 2 5) ≡ Whole Claims.mvpFive
+two-pass : takenOf 1 (set (set (commandFrame 1 Claims.sapFour) 1 4) 2 5) ≡ Whole Claims.fourFive
 unfolding takenOf frame rightFrame wordOf
 two-pass = refl
 
@@ -116,6 +124,7 @@ laws =
       one-command = one-command;
       one-reply = one-reply;
       command-changed = command-changed;
+      changed-status = changed-status;
       reply-changed = reply-changed;
       two-pass = two-pass;
       one-answer = one-answer;

@@ -1,7 +1,7 @@
 -- What a user of both sides relies on: the board's frames (`takenOf`, `replyFrame`) and the display's (`commandFrame`, `readOf`).
-use Prim.Native.Nat.{ℕ, _%_, _+_, _<_}
+use Prim.Native.Nat.{ℕ}
 use mathlib.Core.Path.{_≡_}
-use mathlib.Core.List.{List, [], _∷_}
+use mathlib.Core.List.{List}
 use lib.Dec.{eqb}
 use lib.IntN.{pos}
 use lib.ListN.{getD, set}
@@ -13,17 +13,17 @@ use Rattle.wire.specs.Frame.{commandFrame, replyFrame}
 use Rattle.wire.specs.Laws.{Changed}
 use Rattle.wire.specs.declared.Command.{Command}
 use Rattle.wire.specs.declared.Reply.{Reply}
-use Rattle.serial.specs.Serial.{takenOf}
+use Rattle.serial.specs.Serial.{takenOf, takenStatus}
 use Rattle.serial.specs.declared.Taken.the-variants.{NotOurs, Damaged, Whole}
 use Rattle.display.specs.Display.{answerOf, readOf, done, refused}
 use Rattle.display.specs.declared.Received.{Received}
 
--- the same command to the module at address 1, its first two bytes exchanged
+-- SAP 4, 0, 51200, and the same with its first two bytes exchanged
 abbrev pub sapFour : Command
 sapFour = record { number = 5; kind = 4; motor = 0; value = word (pos 51200) }
 
-abbrev pub mvpFive : Command
-mvpFive = record { number = 4; kind = 5; motor = 0; value = word (pos 51200) }
+abbrev pub fourFive : Command
+fourFive = record { number = 4; kind = 5; motor = 0; value = word (pos 51200) }
 
 pub record Laws : Type 0 where
   -- what the display builds, the board at that address takes as the same command, and no other board takes
@@ -36,8 +36,9 @@ pub record Laws : Type 0 where
   pub one-reply : (s : List ℕ) (r : Reply) → AllBytes s → readOf s ≡ done r → s ≡ replyFrame r
   -- one changed byte: the board refuses with 1, or is not meant any more; the display refuses with 1
   pub command-changed : (ours : ℕ) (s : List ℕ) (i b : ℕ) → Changed s i b → takenOf ours (set s i b) ≡ pick (eqb (getD (set s i b) 0 0) ours) (Damaged (getD (set s i b) 1 0)) NotOurs
+  pub changed-status : (own ours : ℕ) (s : List ℕ) (i b : ℕ) → Changed s i b → takenStatus own (takenOf ours (set s i b)) ≡ pick (eqb (getD (set s i b) 0 0) ours) 1 0
   pub reply-changed : (s : List ℕ) (i b : ℕ) → Changed s i b → readOf (set s i b) ≡ refused 1
-  -- two changed bytes may pass: SAP 4 with its first two bytes exchanged is a right frame of another command
-  pub two-pass : takenOf 1 (set (set (commandFrame 1 sapFour) 1 4) 2 5) ≡ Whole mvpFive
+  -- two changed bytes may pass: then it is a right frame of another command
+  pub two-pass : takenOf 1 (set (set (commandFrame 1 sapFour) 1 4) 2 5) ≡ Whole fourFive
   -- an answer is known by its numbers
   pub one-answer : (x y : Received) → answerOf x ≡ answerOf y → x ≡ y

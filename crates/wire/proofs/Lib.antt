@@ -1,3 +1,4 @@
 pub mod Nine
 pub mod Sums
 pub mod Frames
+pub mod Examples

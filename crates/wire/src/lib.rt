@@ -5,6 +5,7 @@
 // command and value. On a serial line an address stands before the seven and the checksum after
 // them. `command_at` reads the seven wherever they stand, so that a form with another frame around
 // them, or none, has the same command beneath it.
+ghost use Rattle.wire.specs.Examples.{Examples};
 ghost use Rattle.wire.specs.Laws.{Laws};
 
 mod checksum;
@@ -38,7 +39,7 @@ pub enum Written {
     Length,
 }
 
-// The laws of frames, held to be proved: the function does nothing.
+// The laws of frames and worked examples, held to be proved: the function does nothing.
 pub fn laws()
-    ensures { λ _. ⌜ Laws ⌝ }
+    ensures { λ _. ⌜ Laws × Examples ⌝ }
 {}

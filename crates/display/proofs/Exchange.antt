@@ -13,7 +13,8 @@ use mir.Val.{SFits}
 use Rattle.words.specs.Word.{pick, word}
 use Rattle.words.specs.Bytes.{wordOf, wordAt}
 use Rattle.words.specs.Laws.{AllBytes}
-use Rattle.wire.specs.Frame.{frame, rightFrame, commandAt, commandFrame, replyFrame}
+use Rattle.checksum.specs.Checksum.{rightFrame}
+use Rattle.wire.specs.Frame.{frame, commandAt, commandFrame, replyFrame}
 use Rattle.wire.specs.Laws.{Changed}
 use Rattle.wire.specs.declared.Command.{Command}
 use Rattle.wire.specs.declared.Reply.{Reply}

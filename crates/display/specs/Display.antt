@@ -6,7 +6,7 @@ use lib.IntN.{ℤ, pos}
 use lib.ListN.{length, getD}
 use Rattle.words.specs.Word.{pick, word}
 use Rattle.words.specs.Bytes.{wordAt}
-use Rattle.wire.specs.Frame.{rightFrame}
+use Rattle.checksum.specs.Checksum.{rightFrame}
 use Rattle.wire.specs.declared.Reply.{Reply}
 use Rattle.display.specs.declared.Received.{Received}
 use Rattle.display.specs.declared.Received.the-variants.{Whole, Length, Checksum}

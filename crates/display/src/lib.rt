@@ -40,7 +40,7 @@ pub fn read_reply(s: &[u8]) -> Received
     if s.len() != 9 {
         return Received::Length;
     }
-    if wire::is_right(s) {
+    if checksum::is_right(s) {
         let value = words::word_at(s, 4);
         Received::Whole(Reply {
             reply_address: s[0],

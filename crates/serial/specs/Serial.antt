@@ -4,7 +4,8 @@ use mathlib.Core.List.{List}
 use lib.Dec.{eqb}
 use lib.ListN.{length, getD}
 use Rattle.words.specs.Word.{pick}
-use Rattle.wire.specs.Frame.{rightFrame, commandAt}
+use Rattle.checksum.specs.Checksum.{rightFrame}
+use Rattle.wire.specs.Frame.{commandAt}
 use Rattle.serial.specs.declared.Taken.{Taken}
 use Rattle.serial.specs.declared.Taken.the-variants.{NotOurs, Damaged, Whole}
 

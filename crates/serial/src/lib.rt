@@ -2,11 +2,11 @@
 ghost use mathlib.Core.Path.{_≡_};
 ghost use Rattle.wire.specs.Frame.{writtenStatus, writeStatus, written, replyFrame};
 ghost use Rattle.serial.specs.Serial.{takenOf};
+use checksum::is_right;
 use wire::Command;
 use wire::Reply;
 use wire::Written;
 use wire::command_at;
-use wire::is_right;
 use wire::put_frame;
 
 // What the board makes of a datagram.

@@ -1,6 +1,7 @@
 -- The frames of the examples compute. Assumes nothing.
 use mathlib.Core.Path.{refl}
-use Rattle.wire.specs.Frame.{frame, rightFrame}
+use Rattle.checksum.specs.Checksum.{rightFrame}
+use Rattle.wire.specs.Frame.{frame}
 use Rattle.wire.specs.Examples.{Examples}
 
 pub examples : Examples

@@ -15,11 +15,12 @@ use Rattle.words.specs.declared.Four.{Four}
 use Rattle.words.specs.Bytes.{fourOf, fourAt, wordAt}
 use Rattle.words.specs.Laws.{AllBytes, FourBytes}
 use Rattle.words.proofs.Trips.{split-join, join-split}
-use Rattle.wire.specs.Frame.{total, checksum, seven, summed, frame, rightFrame, writtenStatus}
+use Rattle.checksum.specs.Checksum.{total, checksum, rightFrame}
+use Rattle.wire.specs.Frame.{seven, summed, frame, writtenStatus}
 use Rattle.wire.specs.Laws.{Changed, Laws}
 use Rattle.wire.specs.declared.Written.{Written}
 use Rattle.wire.specs.declared.Written.the-variants.{Done, Length}
-use Rattle.wire.proofs.Nine.{nine}
+use Rattle.checksum.proofs.Nine.{nine}
 
 pub made-right : (a b c d : ℕ) (v : ℤ) → rightFrame (frame a b c d v) ≡ true
 unfolding rightFrame frame

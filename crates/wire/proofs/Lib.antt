@@ -1,4 +1,2 @@
-pub mod Nine
-pub mod Sums
 pub mod Frames
 pub mod Examples

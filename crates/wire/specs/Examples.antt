@@ -5,7 +5,8 @@ use mathlib.Core.Bool.{true, false}
 use mathlib.Core.List.{List, [], _∷_}
 use lib.IntN.{ℤ, pos, negsuc}
 use Rattle.words.specs.Word.{word}
-use Rattle.wire.specs.Frame.{commandFrame, replyFrame, rightFrame}
+use Rattle.checksum.specs.Checksum.{rightFrame}
+use Rattle.wire.specs.Frame.{commandFrame, replyFrame}
 use Rattle.wire.specs.declared.Command.{Command}
 use Rattle.wire.specs.declared.Reply.{Reply}
 

@@ -1,25 +1,17 @@
 -- Commands and replies in nine bytes (01, "Datagrams and status").
-use Prim.Native.Nat.{ℕ, _+_, _%_}
-use mathlib.Core.Bool.{Bool, _&&_}
+use Prim.Native.Nat.{ℕ, _+_}
 use mathlib.Core.List.{List, [], _∷_, _++_}
 use lib.Dec.{eqb}
 use lib.IntN.{ℤ}
-use lib.ListN.{length, getD, take}
+use lib.ListN.{length, getD}
 use Rattle.words.specs.Word.{pick, word}
 use Rattle.words.specs.Bytes.{fourOf, wordAt}
 use Rattle.words.specs.declared.Four.{Four}
+use Rattle.checksum.specs.Checksum.{checksum}
 use Rattle.wire.specs.declared.Command.{Command}
 use Rattle.wire.specs.declared.Reply.{Reply}
 use Rattle.wire.specs.declared.Written.{Written}
 use Rattle.wire.specs.declared.Written.the-variants.{Done, Length}
-
-abbrev pub total : List ℕ → ℕ
-total [] = 0
-total (x ∷ xs) = x + total xs
-
--- "The checksum is the other eight bytes added with 8-bit wrapping."
-abbrev pub checksum : List ℕ → ℕ
-checksum xs = total xs % 256
 
 -- seven bytes: three, and those of a value, most significant first
 abbrev pub seven : ℕ → ℕ → ℕ → Four → List ℕ
@@ -51,10 +43,7 @@ writeStatus out = pick (eqb (length out) 9) 100 20
 abbrev pub written : List ℕ → List ℕ → List ℕ
 written out bytes = pick (eqb (length out) 9) bytes out
 
--- ---- reading: nine bytes, the last of them the checksum of the others
-unfoldable pub rightFrame : List ℕ → Bool
-rightFrame s = eqb (length s) 9 && eqb (checksum (take 8 s)) (getD s 8 0)
-
+-- ---- reading
 -- the seven bytes of a command at a place
 abbrev pub commandAt : List ℕ → ℕ → Command
 commandAt s at =

@@ -11,7 +11,8 @@ use mir.Syntax.{w32}
 use mir.Val.{SFits}
 use Rattle.words.specs.Bytes.{wordAt}
 use Rattle.words.specs.Laws.{AllBytes}
-use Rattle.wire.specs.Frame.{frame, rightFrame, writtenStatus}
+use Rattle.checksum.specs.Checksum.{rightFrame}
+use Rattle.wire.specs.Frame.{frame, writtenStatus}
 use Rattle.wire.specs.declared.Written.{Written}
 
 -- a right frame in which the byte at place i becomes another byte, b

@@ -5,7 +5,7 @@ ghost use lib.ListN.{length};
 ghost use Rattle.wire.specs.Frame.{commandAt, frame, writtenStatus, writeStatus, written};
 use crate::Command;
 use crate::Written;
-use crate::checksum::sum_of;
+use checksum::sum_of;
 use words::Word;
 use words::four_of;
 use words::word_at;

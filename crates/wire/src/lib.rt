@@ -8,10 +8,8 @@
 ghost use Rattle.wire.specs.Examples.{Examples};
 ghost use Rattle.wire.specs.Laws.{Laws};
 
-mod checksum;
 mod frame;
 
-pub use checksum::is_right;
 pub use frame::command_at;
 pub use frame::put_frame;
 use words::Word;

@@ -5,7 +5,7 @@ use borrow.Author.Tests.{eq-eqb, ne-eqb}
 use native.Mathlib.Omega.{arith}
 use lib.ListN.{length, length-set}
 use Rattle.wire.specs.Frame.{frame}
-use Rattle.wire.proofs.Nine.{stored}
+use Rattle.checksum.proofs.Nine.{stored}
 use Rattle.wire.proofs.frame.put_frame.Statement.{statement}
 use Rattle.wire.proofs.frame.put_frame.Tie as tie
 

@@ -1,0 +1,31 @@
+-- The statuses of a division, and the worked examples, which compute. Assumes nothing.
+use mathlib.Core.Path.{_≡_, refl}
+use mathlib.Core.Bool.{Bool, true, false}
+use lib.IntN.{ℤ}
+use lib.Signed.{quotZ, remZ}
+use Rattle.words.specs.Word.{pick, word}
+use Rattle.words.specs.declared.Word.{Word}
+use Rattle.dividing.specs.Divide.{isZero, dividedStatus}
+use Rattle.dividing.specs.declared.Divided.the-variants.{Done, ByZero}
+use Rattle.wrapping.specs.Wrap.{wrap}
+use Rattle.dividing.specs.Laws.{Laws}
+
+status : (t : Bool) (w : Word) → dividedStatus (pick t ByZero (Done w)) ≡ pick t 4 100
+status true w = refl
+status false w = refl
+
+pub laws : Laws
+unfolding wrap
+laws =
+    record {
+      div-status = λ a b. status (isZero b) (word (wrap (quotZ a b)));
+      mod-status = λ a b. status (isZero b) (word (remZ a b));
+      div-seven = refl;
+      mod-seven = refl;
+      div-turned = refl;
+      mod-turned = refl;
+      div-least = refl;
+      mod-least = refl;
+      div-zero = refl;
+      mod-zero = refl;
+    }

@@ -19,20 +19,6 @@ struct Tally {
     different: u64,
 }
 
-// Starts a line, and counts it where something is different.
-fn line(t: Tally, same: bool, name: &[u8]) -> Tally {
-    let mut next = t;
-    if same {
-        text(b"same ");
-    } else {
-        text(b"DIFFERENT ");
-        next.different = wrapping_add_u64(t.different, 1);
-    }
-    text(name);
-    text(b": ");
-    next
-}
-
 // What the board at address 1 takes from a frame, built again: nine zeros where it takes nothing.
 fn taken_again(frame: [u8; 9]) -> [u8; 9] {
     let mut again = [0u8; 9];
@@ -40,38 +26,6 @@ fn taken_again(frame: [u8; 9]) -> [u8; 9] {
         display::build_command(&mut again, 1, c);
     }
     again
-}
-
-// A command to address 1 against its bytes as printed.
-fn command(
-    t: Tally,
-    name: &[u8],
-    number: u8,
-    kind: u8,
-    motor: u8,
-    value: i32,
-    printed: &[u8],
-) -> Tally {
-    let value = Word { v: value };
-    let sent = Command {
-        number: number,
-        kind: kind,
-        motor: motor,
-        value: value,
-    };
-    let mut frame = [0u8; 9];
-    display::build_command(&mut frame, 1, sent);
-    let bytes = spelled(frame);
-    let again = spelled(taken_again(frame));
-    let mut next = line(
-        t,
-        check::same(&bytes, printed) && check::same(&again, printed),
-        name,
-    );
-    text(&bytes);
-    text(b"\n");
-    next.commands = wrapping_add_u64(next.commands, 1);
-    next
 }
 
 // What the display reads from a frame, put together again by the board: nine zeros where it is refused.
@@ -83,42 +37,71 @@ fn read_again(frame: [u8; 9]) -> [u8; 9] {
     again
 }
 
-// A printed reply against the value that its example names.
-fn reply(t: Tally, name: &[u8], value: i32, printed: [u8; 9]) -> Tally {
-    let again = read_again(printed);
-    let found = words::word_at(&again, 4);
-    let mut next = line(t, check::same(&again, &printed) && found.v == value, name);
-    text(&spelled(again));
-    text(b", value ");
-    signed(found);
-    text(b"\n");
-    next.replies = wrapping_add_u64(next.replies, 1);
-    next
+impl Tally {
+    // Starts a line, and counts it where something is different.
+    fn line(self, same: bool, name: &[u8]) -> Tally {
+        let mut next = self;
+        if same {
+            text(b"same ");
+        } else {
+            text(b"DIFFERENT ");
+            next.different = wrapping_add_u64(next.different, 1);
+        }
+        text(name);
+        text(b": ");
+        next
+    }
+
+    // A command to address 1 against its bytes as printed.
+    fn command(
+        self,
+        name: &[u8],
+        number: u8,
+        kind: u8,
+        motor: u8,
+        value: i32,
+        printed: &[u8],
+    ) -> Tally {
+        let value = Word { v: value };
+        let sent = Command {
+            number: number,
+            kind: kind,
+            motor: motor,
+            value: value,
+        };
+        let mut frame = [0u8; 9];
+        display::build_command(&mut frame, 1, sent);
+        let bytes = spelled(frame);
+        let again = spelled(taken_again(frame));
+        let same = check::same(&bytes, printed) && check::same(&again, printed);
+        let mut next = self.line(same, name);
+        text(&bytes);
+        text(b"\n");
+        next.commands = wrapping_add_u64(next.commands, 1);
+        next
+    }
+
+    // A printed reply against the value that its example names.
+    fn reply(self, name: &[u8], value: i32, printed: [u8; 9]) -> Tally {
+        let again = read_again(printed);
+        let found = words::word_at(&again, 4);
+        let same = check::same(&again, &printed) && found.v == value;
+        let mut next = self.line(same, name);
+        text(&spelled(again));
+        text(b", value ");
+        signed(found);
+        text(b"\n");
+        next.replies = wrapping_add_u64(next.replies, 1);
+        next
+    }
 }
 
 // 3.6.1 to 3.6.4.
 fn motion(t: Tally) -> Tally {
-    let t = command(
-        t,
-        b"ROR 0, 500",
-        1,
-        0,
-        0,
-        500,
-        b"01 01 00 00 00 00 01 F4 F7",
-    );
-    let t = command(
-        t,
-        b"ROL 0, 500",
-        2,
-        0,
-        0,
-        500,
-        b"01 02 00 00 00 00 01 F4 F8",
-    );
-    let t = command(t, b"MST 0", 3, 0, 0, 0, b"01 03 00 00 00 00 00 00 04");
-    let t = command(
-        t,
+    let t = t.command(b"ROR 0, 500", 1, 0, 0, 500, b"01 01 00 00 00 00 01 F4 F7");
+    let t = t.command(b"ROL 0, 500", 2, 0, 0, 500, b"01 02 00 00 00 00 01 F4 F8");
+    let t = t.command(b"MST 0", 3, 0, 0, 0, b"01 03 00 00 00 00 00 00 04");
+    let t = t.command(
         b"MVP ABS, 0, 90000",
         4,
         0,
@@ -126,8 +109,7 @@ fn motion(t: Tally) -> Tally {
         90000,
         b"01 04 00 00 00 01 5F 90 F5",
     );
-    command(
-        t,
+    t.command(
         b"MVP REL, 0, -10000",
         4,
         1,
@@ -139,8 +121,7 @@ fn motion(t: Tally) -> Tally {
 
 // 3.6.5 to 3.6.12. RSAP's checksum is printed as 0A; the rule gives 0F, and the rule decides.
 fn parameters(t: Tally) -> Tally {
-    let t = command(
-        t,
+    let t = t.command(
         b"SAP 4, 0, 51200",
         5,
         4,
@@ -148,10 +129,9 @@ fn parameters(t: Tally) -> Tally {
         51200,
         b"01 05 04 00 00 00 C8 00 D2",
     );
-    let t = command(t, b"GAP 1, 0", 6, 1, 0, 0, b"01 06 01 00 00 00 00 00 08");
-    let t = command(t, b"STAP 6, 12", 7, 6, 0, 0, b"01 07 06 00 00 00 00 00 0E");
-    let t = command(
-        t,
+    let t = t.command(b"GAP 1, 0", 6, 1, 0, 0, b"01 06 01 00 00 00 00 00 08");
+    let t = t.command(b"STAP 6, 12", 7, 6, 0, 0, b"01 07 06 00 00 00 00 00 0E");
+    let t = t.command(
         b"RSAP 8, 6 (000 prints 0A)",
         8,
         6,
@@ -159,56 +139,22 @@ fn parameters(t: Tally) -> Tally {
         0,
         b"01 08 06 00 00 00 00 00 0F",
     );
-    let t = command(
-        t,
-        b"SGP 66, 0, 3",
-        9,
-        66,
-        0,
-        3,
-        b"01 09 42 00 00 00 00 03 4F",
-    );
-    let t = command(t, b"GGP 66, 0", 10, 66, 0, 0, b"01 0A 42 00 00 00 00 00 4D");
-    let t = command(
-        t,
-        b"STGP 42, 2",
-        11,
-        42,
-        2,
-        0,
-        b"01 0B 2A 02 00 00 00 00 38",
-    );
-    command(
-        t,
-        b"RSGP 42, 2",
-        12,
-        42,
-        2,
-        0,
-        b"01 0C 2A 02 00 00 00 00 39",
-    )
+    let t = t.command(b"SGP 66, 0, 3", 9, 66, 0, 3, b"01 09 42 00 00 00 00 03 4F");
+    let t = t.command(b"GGP 66, 0", 10, 66, 0, 0, b"01 0A 42 00 00 00 00 00 4D");
+    let t = t.command(b"STGP 42, 2", 11, 42, 2, 0, b"01 0B 2A 02 00 00 00 00 38");
+    t.command(b"RSGP 42, 2", 12, 42, 2, 0, b"01 0C 2A 02 00 00 00 00 39")
 }
 
 // 3.6.13 to 3.6.16.
 fn ports_and_numbers(t: Tally) -> Tally {
-    let t = command(
-        t,
-        b"SIO 0, 2, 1",
-        14,
-        0,
-        2,
-        1,
-        b"01 0E 00 02 00 00 00 01 12",
-    );
-    let t = command(t, b"GIO 0, 1", 15, 0, 1, 0, b"01 0F 00 01 00 00 00 00 11");
-    let t = reply(
-        t,
+    let t = t.command(b"SIO 0, 2, 1", 14, 0, 2, 1, b"01 0E 00 02 00 00 00 01 12");
+    let t = t.command(b"GIO 0, 1", 15, 0, 1, 0, b"01 0F 00 01 00 00 00 00 11");
+    let t = t.reply(
         b"reply to GIO 0, 1",
         302,
         [0x02, 0x01, 0x64, 0x0F, 0x00, 0x00, 0x01, 0x2E, 0xA5],
     );
-    let t = command(
-        t,
+    let t = t.command(
         b"CALC MUL, -5000",
         19,
         2,
@@ -216,31 +162,21 @@ fn ports_and_numbers(t: Tally) -> Tally {
         -5000,
         b"01 13 02 00 FF FF EC 78 78",
     );
-    let t = reply(
-        t,
+    let t = t.reply(
         b"reply to CALC MUL, -5000",
         -5000,
         [0x02, 0x01, 0x64, 0x13, 0xFF, 0xFF, 0xEC, 0x78, 0xDC],
     );
-    command(
-        t,
-        b"COMP 1000",
-        20,
-        0,
-        0,
-        1000,
-        b"01 14 00 00 00 00 03 E8 00",
-    )
+    t.command(b"COMP 1000", 20, 0, 0, 1000, b"01 14 00 00 00 00 03 E8 00")
 }
 
 // 3.6.17 to 3.6.22, the labels at the addresses that 000 assumes.
 fn flow(t: Tally) -> Tally {
-    let t = command(t, b"JC GE, 10", 21, 5, 0, 10, b"01 15 05 00 00 00 00 0A 25");
-    let t = command(t, b"JA 10", 22, 0, 0, 10, b"01 16 00 00 00 00 00 0A 21");
-    let t = command(t, b"CSUB 100", 23, 0, 0, 100, b"01 17 00 00 00 00 00 64 7C");
-    let t = command(t, b"RSUB", 24, 0, 0, 0, b"01 18 00 00 00 00 00 00 19");
-    let t = command(
-        t,
+    let t = t.command(b"JC GE, 10", 21, 5, 0, 10, b"01 15 05 00 00 00 00 0A 25");
+    let t = t.command(b"JA 10", 22, 0, 0, 10, b"01 16 00 00 00 00 00 0A 21");
+    let t = t.command(b"CSUB 100", 23, 0, 0, 100, b"01 17 00 00 00 00 00 64 7C");
+    let t = t.command(b"RSUB", 24, 0, 0, 0, b"01 18 00 00 00 00 00 00 19");
+    let t = t.command(
         b"WAIT POS, 0, 0",
         27,
         1,
@@ -248,15 +184,15 @@ fn flow(t: Tally) -> Tally {
         0,
         b"01 1B 01 00 00 00 00 00 1D",
     );
-    command(t, b"STOP", 28, 0, 0, 0, b"01 1C 00 00 00 00 00 00 1D")
+    t.command(b"STOP", 28, 0, 0, 0, b"01 1C 00 00 00 00 00 00 1D")
 }
 
 // 3.6.23 to 3.6.26.
 fn accumulator(t: Tally) -> Tally {
-    let t = command(t, b"CALCX MUL", 33, 2, 0, 0, b"01 21 02 00 00 00 00 00 24");
-    let t = command(t, b"AAP 0, 0", 34, 0, 0, 0, b"01 22 00 00 00 00 00 00 23");
-    let t = command(t, b"AGP 42, 2", 35, 42, 2, 0, b"01 23 2A 02 00 00 00 00 50");
-    command(t, b"CLE ETO", 36, 1, 0, 0, b"01 24 01 00 00 00 00 00 26")
+    let t = t.command(b"CALCX MUL", 33, 2, 0, 0, b"01 21 02 00 00 00 00 00 24");
+    let t = t.command(b"AAP 0, 0", 34, 0, 0, 0, b"01 22 00 00 00 00 00 00 23");
+    let t = t.command(b"AGP 42, 2", 35, 42, 2, 0, b"01 23 2A 02 00 00 00 00 50");
+    t.command(b"CLE ETO", 36, 1, 0, 0, b"01 24 01 00 00 00 00 00 26")
 }
 
 fn main() {

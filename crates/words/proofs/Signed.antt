@@ -5,18 +5,15 @@ use Prim.Native.Nat.{ℕ, suc, _-_, _^_, _<_}
 use native.Mathlib.Omega.{arith}
 use lib.Dec.{T, leb·zero}
 use lib.IntN.{ℤ, pos, negsuc, natAbs}
-use lib.Signed.{mag, leZ, ltZ, nonNeg}
+use lib.Signed.{mag, leZ, nonNeg}
 use mir.Syntax.{Width}
 use mir.Val.{Fits, SFits, bits, ofZ, toZ}
 use mir.ValLaws.{toZ-ofZ, toZ-pos, half-full, ofZ-fits}
 
 module _ (w : Width) where
-  -- a test of two numbers, which the machine reads off their bits
-  pub test-le : (a b : ℤ) {t : Bool} → SFits w a → SFits w b → leZ (toZ w (ofZ w a)) (toZ w (ofZ w b)) ≡ t → leZ a b ≡ t
-  test-le a b f g h = rw (toZ-ofZ w a f, toZ-ofZ w b g) at h
-
-  pub test-lt : (a b : ℤ) {t : Bool} → SFits w a → SFits w b → ltZ (toZ w (ofZ w a)) (toZ w (ofZ w b)) ≡ t → ltZ a b ≡ t
-  test-lt a b f g h = rw (toZ-ofZ w a f, toZ-ofZ w b g) at h
+  -- a test of two numbers, `leZ` or `ltZ`, which the machine reads off their bits
+  pub test : (op : ℤ → ℤ → Bool) (a b : ℤ) {t : Bool} → SFits w a → SFits w b → op (toZ w (ofZ w a)) (toZ w (ofZ w b)) ≡ t → op a b ≡ t
+  test op a b f g h = rw (toZ-ofZ w a f, toZ-ofZ w b g) at h
 
   -- the same against a literal, whose bits compute
   pub test-sign : (z : ℤ) {t : Bool} → SFits w z → leZ (pos 0) (toZ w (ofZ w z)) ≡ t → leZ (pos 0) z ≡ t

@@ -1,2 +1,3 @@
-pub mod Examples
 pub mod Divisor
+pub mod Whole
+pub mod Together

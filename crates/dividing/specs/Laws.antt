@@ -1,11 +1,20 @@
--- The statuses of a division, and worked examples: line 7 of 01's "Proved table" is among them. `negsuc n` is -(n + 1).
+-- What a user of division relies on, and worked examples: line 7 of 01's "Proved table" is among them. `negsuc n` is -(n + 1).
+use Prim.Native.Nat.{_<_}
 use mathlib.Core.Path.{_≡_}
-use lib.IntN.{ℤ, pos, negsuc}
+use mathlib.Core.Bool.{true, false}
+use lib.IntN.{ℤ, pos, negsuc, natAbs, _+ℤ_, _*ℤ_}
+use lib.Signed.{leZ, quotZ, remZ}
 use Rattle.words.specs.Word.{pick, word}
 use Rattle.dividing.specs.Divide.{isZero, dividedW, remainderW, dividedStatus}
 use Rattle.dividing.specs.declared.Divided.the-variants.{Done, ByZero}
 
 pub record Laws : Type 0 where
+  -- "toward zero; remainder has the dividend's sign": a is the quotient times b and the remainder, which is smaller than b
+  -- and has a's sign or is 0
+  pub whole : (a b : ℤ) → quotZ a b *ℤ b +ℤ remZ a b ≡ a
+  pub small : (a b : ℤ) → isZero b ≡ false → natAbs (remZ a b) < natAbs b
+  pub sign-up : (a b : ℤ) → leZ (pos 0) a ≡ true → leZ (pos 0) (remZ a b) ≡ true
+  pub sign-down : (a b : ℤ) → leZ a (pos 0) ≡ true → leZ (remZ a b) (pos 0) ≡ true
   -- "zero divisor 4", and every other is done
   pub div-status : (a b : ℤ) → dividedStatus (dividedW a b) ≡ pick (isZero b) 4 100
   pub mod-status : (a b : ℤ) → dividedStatus (remainderW a b) ≡ pick (isZero b) 4 100

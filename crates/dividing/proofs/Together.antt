@@ -1,4 +1,4 @@
--- The statuses of a division, and the worked examples, which compute. Assumes nothing.
+-- The laws of division together: the statuses by cases, the worked examples by computing. Assumes nothing.
 use mathlib.Core.Path.{_≡_, refl}
 use mathlib.Core.Bool.{Bool, true, false}
 use lib.IntN.{ℤ}
@@ -9,6 +9,7 @@ use Rattle.dividing.specs.Divide.{isZero, dividedStatus}
 use Rattle.dividing.specs.declared.Divided.the-variants.{Done, ByZero}
 use Rattle.wrapping.specs.Wrap.{wrap}
 use Rattle.dividing.specs.Laws.{Laws}
+use Rattle.dividing.proofs.Whole.{whole, small, sign-up, sign-down}
 
 status : (t : Bool) (w : Word) → dividedStatus (pick t ByZero (Done w)) ≡ pick t 4 100
 status true w = refl
@@ -18,6 +19,10 @@ pub laws : Laws
 unfolding wrap
 laws =
     record {
+      whole = whole;
+      small = small;
+      sign-up = sign-up;
+      sign-down = sign-down;
       div-status = λ a b. status (isZero b) (word (wrap (quotZ a b)));
       mod-status = λ a b. status (isZero b) (word (remZ a b));
       div-seven = refl;

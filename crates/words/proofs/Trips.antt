@@ -110,6 +110,8 @@ put-after s at z i h = apart s at (fourOf z) i (λ e. omega arith) (λ e. omega 
 pub laws : Laws
 laws =
     record {
+      minus-one = refl;
+      least = refl;
       split-join = split-join;
       join-split = join-split;
       put-read = put-read;

@@ -2,10 +2,11 @@
 use Prim.Native.Nat.{ℕ, _+_, _≤_, _<_}
 use mathlib.Core.Path.{_≡_}
 use mathlib.Core.List.{List}
-use lib.IntN.{ℤ}
+use lib.IntN.{ℤ, negsuc}
 use lib.ListN.{length, getD}
 use mir.Syntax.{w32}
 use mir.Val.{SFits}
+use Rattle.words.specs.Word.{bitsOf, ofBits}
 use Rattle.words.specs.Bytes.{fourOf, wordOf, wordAt, putWord}
 use Rattle.words.specs.declared.Four.{Four}
 
@@ -20,6 +21,9 @@ pub record FourBytes (f : Four) : Type 0 where
   pub b0 : f .b0 < 256
 
 pub record Laws : Type 0 where
+  -- -1 has all 32 bits, and -2147483648 the highest alone
+  pub minus-one : bitsOf (negsuc 0) ≡ 4294967295
+  pub least : ofBits 2147483648 ≡ negsuc 2147483647
   -- a word is its four bytes, and four bytes are their word
   pub split-join : (z : ℤ) → SFits w32 z → wordOf (fourOf z) ≡ z
   pub join-split : (f : Four) → FourBytes f → fourOf (wordOf f) ≡ f

@@ -1,7 +1,7 @@
 -- Quotients and remainders of words at 32 bits, by the divisor's bits: 0, those of -1, and all others. Assumes nothing.
 use mathlib.Core.Path.{_≡_, refl, sym, ap, _∙_}
 use mathlib.Core.Bool.{true, false}
-use Prim.Native.Nat.{ℕ, zero, suc, _*_, _/_, _%_, _≤_, _<_}
+use Prim.Native.Nat.{ℕ, zero, suc, _*_, _/_, _≤_, _<_}
 use native.Mathlib.Omega.{arith}
 use native.Mathlib.Nat.{div-le-self, div-mul-le-self, div-one, mod-one, mul-le-mul-left}
 use borrow.Author.Tests.{eq-eqb, ne-eqb}
@@ -11,6 +11,7 @@ use mir.Syntax.{w32}
 use mir.Val.{SFits, ofZ, toZ}
 use mir.ValLaws.{toZ-ofZ}
 use Rattle.wrapping.specs.Wrap.{wrap}
+use Rattle.wrapping.proofs.Whole.{mag-neg}
 use Rattle.wrapping.proofs.Wraps.{wrap-stays}
 use Rattle.dividing.specs.Divide.{isZero}
 
@@ -37,22 +38,22 @@ rem-minus (pos n) = ap pos (sym (mod-one n))
 rem-minus (negsuc n) = ap (λ (m : ℕ). negℤ (pos m)) (sym (mod-one (suc n)))
 
 -- ---- all others: the quotient is a word
-mag-neg : (n : ℕ) {k : ℕ} → n ≤ suc k → mag (negℤ (pos n)) ≤ k
-mag-neg zero h = omega arith
-mag-neg (suc n) h = omega arith
-
 half : (a b : ℕ) → suc a / suc (suc b) * 2 ≤ suc a
 half a b = omega (arith, div-mul-le-self (suc a) (suc (suc b)), mul-le-mul-left (suc a / suc (suc b)) two)
   where
     two : 2 ≤ suc (suc b)
     two = omega arith
 
-pub quot-word : (a b : ℤ) → SFits w32 a → (ofZ w32 b ≡ 4294967295 → ⊥) → SFits w32 (quotZ a b)
+pub quot-word : (a b : ℤ) → SFits w32 a → (b ≡ negsuc 0 → ⊥) → SFits w32 (quotZ a b)
 quot-word (pos a) (pos b) f g = record { sfits = omega (arith, div-le-self a b, f .sfits) }
 quot-word (pos a) (negsuc b) f g = record { sfits = omega (arith, mag-neg (a / suc b) {k = a} (omega (arith, div-le-self a (suc b))), f .sfits) }
 quot-word (negsuc a) (pos b) f g = record { sfits = omega (arith, mag-neg (suc a / b) (div-le-self (suc a) b), f .sfits) }
 quot-word (negsuc a) (negsuc zero) f g = absurd (g refl)
 quot-word (negsuc a) (negsuc (suc b)) f g = record { sfits = omega (arith, half a b, f .sfits) }
+
+-- the machine tests the bits of -1
+not-minus : (b : ℤ) → (ofZ w32 b ≡ 4294967295 → ⊥) → b ≡ negsuc 0 → ⊥
+not-minus b m e = m (ap (ofZ w32) e)
 
 pub rem-word : (a b : ℤ) → SFits w32 a → SFits w32 (remZ a b)
 rem-word a b f = record { sfits = omega (arith, mag-rem a b, f .sfits) }
@@ -60,7 +61,7 @@ rem-word a b f = record { sfits = omega (arith, mag-rem a b, f .sfits) }
 module _ (a b : ℤ) (f : SFits w32 a) (g : SFits w32 b) where
   -- what the machine asks of a division
   pub divides : (ofZ w32 b ≡ 0 → ⊥) → (ofZ w32 b ≡ 4294967295 → ⊥) → (0 < ofZ w32 b) × SFits w32 (quotZ (toZ w32 (ofZ w32 a)) (toZ w32 (ofZ w32 b)))
-  divides z m = rw (toZ-ofZ w32 a f, toZ-ofZ w32 b g) (positive (ofZ w32 b) z, quot-word a b f m)
+  divides z m = rw (toZ-ofZ w32 a f, toZ-ofZ w32 b g) (positive (ofZ w32 b) z, quot-word a b f (not-minus b m))
     where
       positive : (n : ℕ) → (n ≡ 0 → ⊥) → 0 < n
       positive zero z = absurd (z refl)
@@ -69,7 +70,7 @@ module _ (a b : ℤ) (f : SFits w32 a) (g : SFits w32 b) where
   -- what it makes
   pub quotient : (ofZ w32 b ≡ 4294967295 → ⊥) → toZ w32 (ofZ w32 (quotZ (toZ w32 (ofZ w32 a)) (toZ w32 (ofZ w32 b)))) ≡ wrap (quotZ a b)
   quotient m =
-      let h = quot-word a b f m in
+      let h = quot-word a b f (not-minus b m) in
       rw (toZ-ofZ w32 a f, toZ-ofZ w32 b g, toZ-ofZ w32 (quotZ a b) h) (sym (wrap-stays (quotZ a b) h))
 
   pub remainder : toZ w32 (ofZ w32 (remZ (toZ w32 (ofZ w32 a)) (toZ w32 (ofZ w32 b)))) ≡ remZ a b

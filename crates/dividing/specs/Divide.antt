@@ -2,9 +2,9 @@
 use Prim.Native.Nat.{ℕ}
 use mathlib.Core.Bool.{Bool, false}
 use lib.Dec.{eqb}
-use lib.IntN.{ℤ, pos, negsuc, _+ℤ_, _-ℤ_}
+use lib.IntN.{ℤ, pos, negsuc}
 use lib.Signed.{quotZ, remZ}
-use Rattle.words.specs.Word.{pick, word}
+use Rattle.words.specs.Word.{pick}
 use Rattle.wrapping.specs.Wrap.{wrap}
 use Rattle.dividing.specs.declared.Divided.{Divided}
 use Rattle.dividing.specs.declared.Divided.the-variants.{Done, ByZero}
@@ -13,15 +13,27 @@ abbrev pub isZero : ℤ → Bool
 isZero (pos n) = eqb n 0
 isZero (negsuc n) = false
 
--- DIV: toward zero; a zero divisor is a case of its own
-abbrev pub dividedW : ℤ → ℤ → Divided
-dividedW a b = pick (isZero b) ByZero (Done (word (wrap (quotZ a b))))
+-- a status and a value
+pub record Answer : Type 0 where
+  pub status : ℕ
+  pub value : ℤ
+
+abbrev pub done : ℤ → Answer
+done z = record { status = 100; value = z }
+
+-- "zero divisor 4"; a refusal's value is 0
+abbrev pub byZero : Answer
+byZero = record { status = 4; value = pos 0 }
+
+-- the numbers of each answer
+abbrev pub answerOf : Divided → Answer
+answerOf (Done w) = done (w .v)
+answerOf ByZero = byZero
+
+-- DIV: toward zero, wrapped at 32 bits
+abbrev pub dividedW : ℤ → ℤ → Answer
+dividedW a b = pick (isZero b) byZero (done (wrap (quotZ a b)))
 
 -- MOD: "remainder has the dividend's sign"
-abbrev pub remainderW : ℤ → ℤ → Divided
-remainderW a b = pick (isZero b) ByZero (Done (word (remZ a b)))
-
--- the status: "zero divisor 4"
-abbrev pub dividedStatus : Divided → ℕ
-dividedStatus (Done w) = 100
-dividedStatus ByZero = 4
+abbrev pub remainderW : ℤ → ℤ → Answer
+remainderW a b = pick (isZero b) byZero (done (remZ a b))

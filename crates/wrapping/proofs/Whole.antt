@@ -4,7 +4,7 @@ use mathlib.Core.Path.{_≡_, refl}
 use mathlib.Core.Bool.{Bool, true, false, cond}
 use Prim.Native.Nat.{ℕ, zero, suc, _+_, _-_, _*_, _%_, _≤_, _<_}
 use native.Mathlib.Omega.{arith}
-use native.Mathlib.Nat.{mul-le-mul-left, mul-le-mul-right, le-trans}
+use native.Mathlib.Nat.{mul-le-mul-left, mul-le-mul-right, le-trans, le-suc}
 use lib.Dec.{ltb, leb·zero}
 use lib.IntN.{ℤ, pos, negsuc, natAbs, negℤ, subℕ, _+ℤ_, _*ℤ_}
 use lib.Signed.{mag, leZ}
@@ -31,7 +31,7 @@ mag-add (pos a) (negsuc b) h g = mag-sub a (suc b) (omega arith) (omega arith)
 mag-add (negsuc a) (pos b) h g = mag-sub b (suc a) (omega arith) (omega arith)
 mag-add (negsuc a) (negsuc b) h g = omega arith
 
-mag-neg : (n : ℕ) {k : ℕ} → n ≤ k → mag (negℤ (pos n)) ≤ k
+pub mag-neg : (n : ℕ) {k : ℕ} → n ≤ suc k → mag (negℤ (pos n)) ≤ k
 mag-neg zero h = omega arith
 mag-neg (suc n) h = omega arith
 
@@ -45,8 +45,8 @@ prod {a} {b} {k} h g = le-trans (mul-le-mul-right b h) (mul-le-mul-left k g)
 
 mag-mul : (a b : ℤ) {k : ℕ} → mag a < k → mag b < k → mag (a *ℤ b) ≤ k * k
 mag-mul (pos a) (pos b) h g = prod (omega arith) (omega arith)
-mag-mul (pos a) (negsuc b) h g = mag-neg (a * suc b) (prod (omega arith) (omega arith))
-mag-mul (negsuc a) (pos b) h g = mag-neg (suc a * b) (prod (omega arith) (omega arith))
+mag-mul (pos a) (negsuc b) {k} h g = mag-neg (a * suc b) (le-trans (prod (omega arith) (omega arith)) (le-suc (k * k)))
+mag-mul (negsuc a) (pos b) {k} h g = mag-neg (suc a * b) (le-trans (prod (omega arith) (omega arith)) (le-suc (k * k)))
 mag-mul (negsuc a) (negsuc b) h g = prod (omega arith) (omega arith)
 
 pub add-whole : (a b : ℤ) → SFits w32 a → SFits w32 b → SFits w64 (a +ℤ b)

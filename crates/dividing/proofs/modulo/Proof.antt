@@ -1,10 +1,8 @@
 -- `dividing::modulo` meets its contract: each return by the divisor's bits. Assumes nothing.
 use mathlib.Core.Path.{sym, ap, _∙_}
-use lib.IntN.{ℤ}
 use lib.Signed.{remZ}
 use borrow.Author.Needs.{needs}
-use Rattle.words.specs.Word.{word}
-use Rattle.dividing.specs.declared.Divided.the-variants.{Done}
+use Rattle.dividing.specs.Divide.{done}
 use Rattle.dividing.proofs.Divisor.{zero-yes, zero-no, minus-one, rem-minus, divides, remainder}
 use Rattle.dividing.proofs.modulo.Statement.{statement}
 use Rattle.dividing.proofs.modulo.Tie as tie
@@ -25,14 +23,14 @@ returns-2 c =
     let x = i .before .before .before .args in
     let e = minus-one (x .b .v) (search needs) (c .if2 .taken) in
     simp (zero-no (x .b .v) (i .if1 .left))
-    (ap (λ (z : ℤ). Done (word z)) (rem-minus (x .a .v) ∙ ap (remZ (x .a .v)) (sym e)))
+    (ap done (rem-minus (x .a .v) ∙ ap (remZ (x .a .v)) (sym e)))
 
 returns-3 : tie.Need-returns-3
 returns-3 c =
     let i = c .before .before .before .before .before .before .before in
     let x = i .before .before .before .args in
     simp (zero-no (x .b .v) (i .if1 .left))
-    (ap (λ (z : ℤ). Done (word z)) (remainder (x .a .v) (x .b .v) (search needs) (search needs)))
+    (ap done (remainder (x .a .v) (x .b .v) (search needs) (search needs)))
 
 pub modulo-spec : {M : Type 1} → statement M
 modulo-spec = tie.close (tie.spec rem-t8 returns returns-2 returns-3)

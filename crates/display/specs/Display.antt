@@ -3,17 +3,17 @@ use Prim.Native.Nat.{ℕ}
 use mathlib.Core.List.{List}
 use lib.Dec.{eqb}
 use lib.IntN.{ℤ, pos}
-use lib.ListN.{length, getD}
-use Rattle.words.specs.Word.{pick, word}
-use Rattle.words.specs.Bytes.{wordAt}
+use lib.ListN.{length}
+use Rattle.words.specs.Word.{pick}
 use Rattle.checksum.specs.Checksum.{rightFrame}
+use Rattle.wire.specs.Frame.{replyOf}
 use Rattle.wire.specs.declared.Reply.{Reply}
 use Rattle.display.specs.declared.Received.{Received}
-use Rattle.display.specs.declared.Received.the-variants.{Whole, Length, Checksum}
+use Rattle.display.specs.declared.Received.the-variants.{Read, Length, Checksum}
 
 -- the numbers answered: how the reading went, and what stands in the reply
 pub record Answer : Type 0 where
-  pub number : ℕ
+  pub outcome : ℕ
   pub reply-address : ℕ
   pub module-address : ℕ
   pub status : ℕ
@@ -22,22 +22,24 @@ pub record Answer : Type 0 where
 
 abbrev pub done : Reply → Answer
 done r =
-    record { number = 100; reply-address = r .«reply_address»; module-address = r .«module_address»; status = r .status; command = r .command; value = r .value .v }
+    record {
+      outcome = 100;
+      reply-address = r .«reply_address»;
+      module-address = r .«module_address»;
+      status = r .status;
+      command = r .command;
+      value = r .value .v;
+    }
 
 -- "every other number answered is 0"
 abbrev pub refused : ℕ → Answer
-refused n = record { number = n; reply-address = 0; module-address = 0; status = 0; command = 0; value = pos 0 }
+refused n = record { outcome = n; reply-address = 0; module-address = 0; status = 0; command = 0; value = pos 0 }
 
 -- the numbers of each answer
 abbrev pub answerOf : Received → Answer
-answerOf (Whole r) = done r
+answerOf (Read r) = done r
 answerOf Length = refused 20
 answerOf Checksum = refused 1
-
--- "Reply: reply address (global 76), module address (global 66), status, command, value, checksum."
-abbrev pub replyOf : List ℕ → Reply
-replyOf s =
-    record { «reply_address» = getD s 0 0; «module_address» = getD s 1 0; status = getD s 2 0; command = getD s 3 0; value = word (wordAt s 4) }
 
 -- "Reading a reply refuses a length other than 9 with 20, then a wrong checksum with 1"
 unfoldable pub readOf : List ℕ → Answer

@@ -3,16 +3,15 @@
 // No caller checks first: a buffer of another length than nine bytes is refused with 20, and a reply
 // with a wrong checksum with 1.
 ghost use mathlib.Core.Path.{_≡_};
-ghost use Rattle.wire.specs.Frame.{commandFrame, writtenStatus, writeStatus, written};
+ghost use Rattle.wire.specs.Frame.{Wrote, commandFrame};
 ghost use Rattle.display.specs.Display.{answerOf, readOf};
-ghost use Rattle.display.specs.Laws.{Laws};
 use wire::Command;
 use wire::Reply;
 use wire::Written;
 
 // What reading a reply finds.
 pub enum Received {
-    Whole(Reply),
+    Read(Reply),
     Length,
     Checksum,
 }
@@ -20,7 +19,7 @@ pub enum Received {
 // A command to the module at an address, into a lent buffer; one of another length than nine is left
 // as it is.
 pub fn build_command(out: &mut [u8], address: u8, command: Command) -> Written
-    ensures { λ r. ⌜ (writtenStatus r ≡ writeStatus (now (out .entry))) × (now (out .exit) ≡ written (now (out .entry)) (commandFrame address command)) ⌝ }
+    ensures { λ r. ⌜ Wrote 9 (now (out .entry)) (now (out .exit)) (commandFrame address command) r ⌝ }
 {
     let value = command.value;
     wire::put_frame(
@@ -42,7 +41,7 @@ pub fn read_reply(s: &[u8]) -> Received
     }
     if checksum::is_right(s) {
         let value = words::word_at(s, 4);
-        Received::Whole(Reply {
+        Received::Read(Reply {
             reply_address: s[0],
             module_address: s[1],
             status: s[2],
@@ -53,8 +52,3 @@ pub fn read_reply(s: &[u8]) -> Received
         Received::Checksum
     }
 }
-
-// The laws of both sides, held to be proved: the function does nothing.
-pub fn laws()
-    ensures { λ _. ⌜ Laws ⌝ }
-{}

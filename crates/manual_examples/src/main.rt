@@ -31,7 +31,7 @@ fn taken_again(frame: [u8; 9]) -> [u8; 9] {
 // What the display reads from a frame, put together again by the board: nine zeros where it is refused.
 fn read_again(frame: [u8; 9]) -> [u8; 9] {
     let mut again = [0u8; 9];
-    if let Received::Whole(r) = display::read_reply(&frame) {
+    if let Received::Read(r) = display::read_reply(&frame) {
         serial::put_reply(&mut again, r);
     }
     again

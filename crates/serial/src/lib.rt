@@ -1,6 +1,6 @@
 // The board's side of a serial line: a command taken apart, a reply put together.
 ghost use mathlib.Core.Path.{_≡_};
-ghost use Rattle.wire.specs.Frame.{writtenStatus, writeStatus, written, replyFrame};
+ghost use Rattle.wire.specs.Frame.{Wrote, replyFrame};
 ghost use Rattle.serial.specs.Serial.{takenOf};
 use checksum::is_right;
 use wire::Command;
@@ -37,7 +37,7 @@ pub fn take_command(s: &[u8], ours: u8) -> Taken
 
 // A reply into a lent buffer; one of another length than nine is left as it is.
 pub fn put_reply(out: &mut [u8], reply: Reply) -> Written
-    ensures { λ r. ⌜ (writtenStatus r ≡ writeStatus (now (out .entry))) × (now (out .exit) ≡ written (now (out .entry)) (replyFrame reply)) ⌝ }
+    ensures { λ r. ⌜ Wrote 9 (now (out .entry)) (now (out .exit)) (replyFrame reply) r ⌝ }
 {
     let value = reply.value;
     put_frame(

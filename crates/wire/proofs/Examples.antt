@@ -12,7 +12,6 @@ examples =
       reply-1 = refl;
       command-2 = refl;
       wrong-2 = refl;
-      right-2 = refl;
       reply-2 = refl;
       command-3 = refl;
       reply-3 = refl;

@@ -107,6 +107,32 @@ two-changed s i j b c r hi hj n =
     ∙ rw (getD-set-other t j 8 c 0 (λ q. omega arith), getD-set-other s i 8 b 0 (λ q. omega arith))
     (same-test ((b + c) % 256) ((getD s i 0 + getD s j 0) % 256) (checksum (take 8 (set t j c))) (getD s 8 0) (λ q. omega (arith, p .1, e, f, q)) (λ q. omega (arith, p .1, e, f, q)))
 
+-- a remainder in a sum
+lost : (u b : ℕ) → (b + u % 256) % 256 ≡ (u + b) % 256
+lost u b = omega arith
+
+-- b and s have the sum of t and x, modulo 256
+carried : (t x u b s : ℕ) → t + x ≡ u + b → u % 256 ≡ s → (b + s) % 256 ≡ (t + x) % 256
+carried t x u b s e r = rw (e, ← r) (lost u b)
+
+shifted : (t x c : ℕ) → c < 256 → (x + c) % 256 ≡ (t + x) % 256 → t % 256 ≡ c
+shifted t x c h e = omega arith
+
+unshifted : (t x c : ℕ) → t % 256 ≡ c → (x + c) % 256 ≡ (t + x) % 256
+unshifted t x c e = rw (← e) (lost t x)
+
+pub sum-changed : (s : List ℕ) (i b c : ℕ) → rightFrame s ≡ true → i < 8 → c < 256 → rightFrame (set (set s i b) 8 c) ≡ eqb ((getD s i 0 + c) % 256) ((b + getD s 8 0) % 256)
+sum-changed s i b c r hi hc =
+    let p = right-parts s r in
+    let t = set s i b in
+    let l : length t ≡ 9 = length-set s i b ∙ p .0 in
+    let k = carried (total (take 8 t)) (getD s i 0) (total (take 8 s)) b (getD s 8 0) (sum-eight s i b (p .0) hi) (p .1) in
+    right-by (set t 8 c) (length-set t 8 c ∙ l)
+    ∙ rw (take-set-le 8 t 8 c (omega arith), getD-set-same t 8 c 0 (omega (arith, l)))
+    (same-test ((getD s i 0 + c) % 256) ((b + getD s 8 0) % 256) (checksum (take 8 t)) c
+    (λ q. shifted (total (take 8 t)) (getD s i 0) c hc (q ∙ k))
+    (λ q. unshifted (total (take 8 t)) (getD s i 0) c q ∙ sym k))
+
 pub one-written : (x y : Written) → writtenStatus x ≡ writtenStatus y → x ≡ y
 one-written Done Done h = refl
 one-written Done Length h = absurd (omega arith)
@@ -121,5 +147,6 @@ laws =
       right-made = right-made;
       one-changed = one-changed;
       two-changed = two-changed;
+      sum-changed = sum-changed;
       one-written = one-written;
     }

@@ -1,2 +1,3 @@
+pub mod Sevens
 pub mod Frames
 pub mod Examples

@@ -1,8 +1,8 @@
 -- The frames of lines 1 to 5 of 01's "Proved table", byte by byte, and its bench trap of RSAP's checksum.
 use Prim.Native.Nat.{ℕ}
 use mathlib.Core.Path.{_≡_}
-use mathlib.Core.Bool.{true, false}
-use mathlib.Core.List.{List, [], _∷_}
+use mathlib.Core.Bool.{false}
+use mathlib.Core.List.{[], _∷_}
 use lib.IntN.{ℤ, pos, negsuc}
 use Rattle.words.specs.Word.{word}
 use Rattle.checksum.specs.Checksum.{rightFrame}
@@ -24,7 +24,6 @@ pub record Examples : Type 0 where
   -- 01 08 06 00 00 00 00 00 0A, which is wrong, and 0F, which is right: 02 01 01 08 00 00 00 00 0C
   pub command-2 : commandFrame 1 (command 8 6 0 (pos 0)) ≡ 1 ∷ 8 ∷ 6 ∷ 0 ∷ 0 ∷ 0 ∷ 0 ∷ 0 ∷ 15 ∷ []
   pub wrong-2 : rightFrame (1 ∷ 8 ∷ 6 ∷ 0 ∷ 0 ∷ 0 ∷ 0 ∷ 0 ∷ 10 ∷ []) ≡ false
-  pub right-2 : rightFrame (1 ∷ 8 ∷ 6 ∷ 0 ∷ 0 ∷ 0 ∷ 0 ∷ 0 ∷ 15 ∷ []) ≡ true
   pub reply-2 : replyFrame (reply 1 8 (pos 0)) ≡ 2 ∷ 1 ∷ 1 ∷ 8 ∷ 0 ∷ 0 ∷ 0 ∷ 0 ∷ 12 ∷ []
   -- 01 06 38 00 00 00 00 00 3F: 02 01 64 06 00 01 00 00 6E
   pub command-3 : commandFrame 1 (command 6 56 0 (pos 0)) ≡ 1 ∷ 6 ∷ 56 ∷ 0 ∷ 0 ∷ 0 ∷ 0 ∷ 0 ∷ 63 ∷ []

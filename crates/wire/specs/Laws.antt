@@ -24,12 +24,17 @@ pub record Changed (s : List ℕ) (i b : ℕ) : Type 0 where
   pub other : getD s i 0 ≡ b → ⊥
 
 pub record Laws : Type 0 where
-  pub made-right : (a b c d : ℕ) (v : ℤ) → rightFrame (frame a b c d v) ≡ true
-  pub made-value : (a b c d : ℕ) (v : ℤ) → SFits w32 v → wordAt (frame a b c d v) 4 ≡ v
-  pub right-made : (s : List ℕ) → AllBytes s → rightFrame s ≡ true → frame (getD s 0 0) (getD s 1 0) (getD s 2 0) (getD s 3 0) (wordAt s 4) ≡ s
+  pub made-right : (address b c d : ℕ) (v : ℤ) → rightFrame (frame address b c d v) ≡ true
+  pub made-value : (address b c d : ℕ) (v : ℤ) → SFits w32 v → wordAt (frame address b c d v) 4 ≡ v
+  pub right-made : (s : List ℕ) → AllBytes s → rightFrame s ≡ true
+      → frame (getD s 0 0) (getD s 1 0) (getD s 2 0) (getD s 3 0) (wordAt s 4) ≡ s
   -- one changed byte is always found
   pub one-changed : (s : List ℕ) (i b : ℕ) → Changed s i b → rightFrame (set s i b) ≡ false
-  -- two changed bytes beside the checksum pass exactly when the new two have the sum of the old two
-  pub two-changed : (s : List ℕ) (i j b c : ℕ) → rightFrame s ≡ true → i < 8 → j < 8 → (j ≡ i → ⊥) → rightFrame (set (set s i b) j c) ≡ eqb ((b + c) % 256) ((getD s i 0 + getD s j 0) % 256)
+  -- two changed bytes other than the checksum pass exactly when the new two have the sum of the old two, modulo 256
+  pub two-changed : (s : List ℕ) (i j b c : ℕ) → rightFrame s ≡ true → i < 8 → j < 8 → (j ≡ i → ⊥)
+      → rightFrame (set (set s i b) j c) ≡ eqb ((b + c) % 256) ((getD s i 0 + getD s j 0) % 256)
+  -- a changed byte and a changed checksum pass exactly when the checksum changes as the byte does, modulo 256
+  pub sum-changed : (s : List ℕ) (i b c : ℕ) → rightFrame s ≡ true → i < 8 → c < 256
+      → rightFrame (set (set s i b) 8 c) ≡ eqb ((getD s i 0 + c) % 256) ((b + getD s 8 0) % 256)
   -- an answer is known by its number
   pub one-written : (x y : Written) → writtenStatus x ≡ writtenStatus y → x ≡ y

@@ -1,28 +1,61 @@
 -- `wire::frame::put_frame` meets its contract: nine stores leave a frame's nine bytes. Assumes nothing.
-use mathlib.Core.Path.{refl, _∙_}
+use mathlib.Core.Path.{_≡_, refl, ap, _∙_}
+use mathlib.Core.List.{List, [], _∷_}
+use Prim.Native.Nat.{ℕ}
 use borrow.Author.Needs.{needs}
 use borrow.Author.Tests.{eq-eqb, ne-eqb}
 use native.Mathlib.Omega.{arith}
-use lib.ListN.{length, length-set}
-use Rattle.wire.specs.Frame.{frame}
+use lib.IntN.{ℤ}
+use lib.ListN.{length, set, length-set}
+use Rattle.words.specs.Bytes.{fourOf, putWord}
+use Rattle.words.specs.declared.Four.{Four}
+use Rattle.checksum.specs.Checksum.{checksum}
 use Rattle.checksum.proofs.Nine.{stored}
+use Rattle.wire.specs.Frame.{seven, putSeven, frame}
+use Rattle.wire.proofs.Sevens.{seven-length}
 use Rattle.wire.proofs.frame.put_frame.Statement.{statement}
 use Rattle.wire.proofs.frame.put_frame.Tie as tie
 
+-- an address, seven bytes and their sum, written over nine bytes
+made : (l m : List ℕ) (a b c d n : ℕ) (v : ℤ) (f : Four) → length l ≡ 9 → m ≡ putSeven (set l 0 a) 1 b c d v → f ≡ fourOf v → n ≡ checksum (a ∷ seven b c d f) → set m 8 n ≡ frame a b c d v
+unfolding putSeven putWord frame
+made l m a b c d n v f h p q r =
+    let g = fourOf v in
+    rw (p, r, q) (stored a b c d (g .b3) (g .b2) (g .b1) (g .b0) (checksum (a ∷ seven b c d g)) l h)
+
+kept : (l m : List ℕ) (a b c d : ℕ) (v : ℤ) → m ≡ putSeven (set l 0 a) 1 b c d v → length m ≡ length l
+kept l m a b c d v e = ap length e ∙ seven-length (set l 0 a) 1 b c d v ∙ length-set l 0 a
+
 returns : tie.Need-returns
-returns c = simp (ne-eqb (length (c .before .before .args .out .now)) 9 (c .if1 .taken)) (refl, refl)
+returns c =
+    let e = ne-eqb (length (c .before .before .args .out .now)) 9 (c .if1 .taken) in
+    record { status = simp e; left = simp e }
+
+slice-write-out-2 : tie.Need-slice-write-out-2
+slice-write-out-2 c =
+    let p = c .before .before in
+    let x = p .before .before .before .before .before .before .args in
+    let e = kept (x .out .now) _ (x .address) (x .b) (x .c) (x .d) (x .value .v) (p .put-seven .ensures) in
+    omega arith
+
+same-length : tie.Need-same-length
+same-length c =
+    let p = c .before .before in
+    let x = p .before .before .before .before .before .before .args in
+    simp length-set (kept (x .out .now) _ (x .address) (x .b) (x .c) (x .d) (x .value .v) (p .put-seven .ensures))
 
 returns-2 : tie.Need-returns-2
-unfolding frame
 returns-2 c =
-    let i = c .before .before in
+    let p = c .before .before in
+    let s = p .before .before in
+    let i = s .before .before in
     let x = i .before .before .args in
-    let v = c .before .four-of .result in
-    simp (eq-eqb (length (x .out .now)) 9 (i .if1 .left)) (
-      refl,
-      stored (x .a) (x .b) (x .c) (x .d) (v .b3) (v .b2) (v .b1) (v .b0) (c .sum-of .result) (x .out .now) (i .if1 .left)
-          ∙ simp (c .sum-of .ensures, c .before .four-of .ensures),
-    )
+    let h = i .if1 .left in
+    let e = eq-eqb (length (x .out .now)) 9 h in
+    record {
+      status = simp e;
+      left = simp e (made (x .out .now) _ (x .address) (x .b) (x .c) (x .d) _ (x .value .v) _ h (p .put-seven .ensures) (s .before .four-of .ensures) (s .sum-of .ensures));
+    }
 
 pub put-frame-spec : {M : Type 1} → statement M
 put-frame-spec =
@@ -32,13 +65,7 @@ put-frame-spec =
     (λ c κs. search needs)
     (λ c κs. search needs)
     (λ c. search needs)
-    (λ c. search needs)
-    (λ c. search needs)
-    (λ c. search needs)
-    (λ c. simp length-set (omega arith))
-    (λ c. simp length-set (omega arith))
-    (λ c. simp length-set (omega arith))
-    (λ c. simp length-set (omega arith))
-    (λ c. simp length-set (omega arith))
-    (λ c. search needs)
+    (λ c κs. simp length-set (omega arith))
+    slice-write-out-2
+    same-length
     returns-2)

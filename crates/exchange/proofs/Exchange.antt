@@ -6,26 +6,26 @@ use mathlib.Core.List.{List}
 use native.Mathlib.Omega.{arith}
 use borrow.Author.Tests.{eq-eqb, ne-eqb, eqb-true}
 use lib.Dec.{eqb}
-use lib.IntN.{ℤ}
+use lib.IntN.{ℤ, pos}
 use lib.ListN.{length, getD, set, length-set}
 use mir.Syntax.{w32}
 use mir.Val.{SFits}
 use Rattle.words.specs.Word.{pick, word}
-use Rattle.words.specs.Bytes.{wordOf, wordAt}
+use Rattle.words.specs.Bytes.{wordOf}
 use Rattle.words.specs.Laws.{AllBytes}
 use Rattle.checksum.specs.Checksum.{rightFrame}
-use Rattle.wire.specs.Frame.{frame, commandAt, commandFrame, replyFrame}
+use Rattle.wire.specs.Frame.{frame, commandAt, commandFrame, replyFrame, replyOf}
+use Rattle.wire.specs.Examples.{command}
 use Rattle.wire.specs.Laws.{Changed}
 use Rattle.wire.specs.declared.Command.{Command}
 use Rattle.wire.specs.declared.Reply.{Reply}
 use Rattle.serial.specs.Serial.{takenOf, takenStatus}
 use Rattle.serial.specs.declared.Taken.the-variants.{NotOurs, Damaged, Whole}
 use Rattle.wire.proofs.Frames.{made-right, made-value, right-parts, right-made, one-changed}
-use Rattle.display.specs.Display.{Answer, replyOf, readOf, answerOf, done, refused}
-use Rattle.display.specs.Laws as Claims
+use Rattle.display.specs.Display.{Answer, readOf, answerOf, done, refused}
+use Rattle.exchange.specs.Laws.{Laws}
 use Rattle.display.specs.declared.Received.{Received}
-use Rattle.display.specs.declared.Received.the-variants.{Length, Checksum}
-use Rattle.display.specs.declared.Received.the-variants.{Whole as Read}
+use Rattle.display.specs.declared.Received.the-variants.{Read, Length, Checksum}
 
 pub command-trip : (address : ℕ) (c : Command) → SFits w32 (c .value .v) → takenOf address (commandFrame address c) ≡ Whole c
 unfolding takenOf frame
@@ -67,8 +67,8 @@ abbrev back : Answer → Reply
 back a =
     record { «reply_address» = a .reply-address; «module_address» = a .module-address; status = a .status; command = a .command; value = word (a .value) }
 
-clash : {A : Type 0} (x y : Answer) → x ≡ y → (x .number ≡ y .number → ⊥) → A
-clash x y e n = absurd (n (ap (λ (a : Answer). a .number) e))
+clash : {A : Type 0} (x y : Answer) → x ≡ y → (x .outcome ≡ y .outcome → ⊥) → A
+clash x y e n = absurd (n (ap (λ (a : Answer). a .outcome) e))
 
 read-whole : (x y : Bool) (q r : Reply) → pick x (pick y (done q) (refused 1)) (refused 20) ≡ done r → (y ≡ true) × (q ≡ r)
 read-whole true true q r e = (refl, ap back e)
@@ -101,7 +101,7 @@ pub reply-changed : (s : List ℕ) (i b : ℕ) → Changed s i b → readOf (set
 unfolding readOf
 reply-changed s i b k = simp (eq-eqb (length (set s i b)) 9 (length-changed s i b k), one-changed s i b k)
 
-two-pass : takenOf 1 (set (set (commandFrame 1 Claims.sapFour) 1 4) 2 5) ≡ Whole Claims.fourFive
+two-pass : takenOf 1 (set (set (commandFrame 1 (command 5 4 0 (pos 51200))) 1 4) 2 5) ≡ Whole (command 4 5 0 (pos 51200))
 unfolding takenOf frame rightFrame wordOf
 two-pass = refl
 
@@ -116,7 +116,7 @@ one-answer Checksum (Read r) h = clash (refused 1) (done r) h (λ n. omega arith
 one-answer Checksum Length h = clash (refused 1) (refused 20) h (λ n. omega arith)
 one-answer Checksum Checksum h = refl
 
-pub laws : Claims.Laws
+pub laws : Laws
 laws =
     record {
       command-trip = command-trip;

@@ -1,16 +1,13 @@
 -- The laws of division together, the worked examples by computing. Assumes nothing.
 use mathlib.Core.Path.{_≡_, refl, ap}
 use native.Mathlib.Omega.{arith}
-use lib.IntN.{ℤ}
-use mir.Syntax.{w32}
-use mir.Val.{SFits}
 use Rattle.words.specs.Word.{word}
 use Rattle.wrapping.specs.Wrap.{wrap}
 use Rattle.dividing.specs.Divide.{Answer, answerOf}
 use Rattle.dividing.specs.Laws.{Laws}
 use Rattle.dividing.specs.declared.Divided.{Divided}
 use Rattle.dividing.specs.declared.Divided.the-variants.{Done, ByZero}
-use Rattle.dividing.proofs.Divisor.{quot-word, minus-one, rem-word}
+use Rattle.dividing.proofs.Divisor.{quot-word, rem-word}
 use Rattle.dividing.proofs.Whole.{whole, small, sign-up, sign-down}
 
 pub one-answer : (x y : Divided) → answerOf x ≡ answerOf y → x ≡ y

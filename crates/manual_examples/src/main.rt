@@ -1,6 +1,7 @@
-// Every binary command and every reply that document 000 prints in its chapters 2 and 3: built and
-// read by the display's functions, compared with the printed bytes, and handed back by the board's
-// frames. A line for each, and a line with the counts.
+// Every binary command and every reply that document 000 prints in its chapters 2 and 3: a command
+// is built by the display, compared with the printed bytes, and taken back by the board; a reply is
+// read by the display and compared with what its example says. A line for each, named as 000 titles
+// its frame, and a line with the counts.
 mod print;
 
 use display::Received;
@@ -11,6 +12,7 @@ use print::text;
 use serial::Taken;
 use std::num::wrapping_add_u64;
 use wire::Command;
+use wire::Reply;
 use words::Word;
 
 struct Tally {
@@ -28,13 +30,13 @@ fn taken_again(frame: [u8; 9]) -> [u8; 9] {
     again
 }
 
-// What the display reads from a frame, put together again by the board: nine zeros where it is refused.
-fn read_again(frame: [u8; 9]) -> [u8; 9] {
-    let mut again = [0u8; 9];
-    if let Received::Read(r) = display::read_reply(&frame) {
-        serial::put_reply(&mut again, r);
-    }
-    again
+// What a reply of module 1 to address 2 is to have: status 100, the command and the value.
+fn is_reply(found: Reply, command: u8, value: i32) -> bool {
+    found.reply_address == 2
+        && found.module_address == 1
+        && found.status == 100
+        && found.command == command
+        && found.value.v == value
 }
 
 impl Tally {
@@ -81,15 +83,19 @@ impl Tally {
         next
     }
 
-    // A printed reply against the value that its example names.
-    fn reply(self, name: &[u8], value: i32, printed: [u8; 9]) -> Tally {
-        let again = read_again(printed);
-        let found = words::word_at(&again, 4);
-        let same = check::same(&again, &printed) && found.v == value;
-        let mut next = self.line(same, name);
-        text(&spelled(again));
-        text(b", value ");
-        signed(found);
+    // A printed reply against what its example says of it.
+    fn reply(self, name: &[u8], command: u8, value: i32, printed: [u8; 9]) -> Tally {
+        let mut next = self;
+        if let Received::Read(found) = display::read_reply(&printed) {
+            next = self.line(is_reply(found, command, value), name);
+            text(&spelled(printed));
+            text(b", value ");
+            let read = found.value;
+            signed(read);
+        } else {
+            next = self.line(false, name);
+            text(b"refused");
+        }
         text(b"\n");
         next.replies = wrapping_add_u64(next.replies, 1);
         next
@@ -151,6 +157,7 @@ fn ports_and_numbers(t: Tally) -> Tally {
     let t = t.command(b"GIO 0, 1", 15, 0, 1, 0, b"01 0F 00 01 00 00 00 00 11");
     let t = t.reply(
         b"reply to GIO 0, 1",
+        15,
         302,
         [0x02, 0x01, 0x64, 0x0F, 0x00, 0x00, 0x01, 0x2E, 0xA5],
     );
@@ -164,6 +171,7 @@ fn ports_and_numbers(t: Tally) -> Tally {
     );
     let t = t.reply(
         b"reply to CALC MUL, -5000",
+        19,
         -5000,
         [0x02, 0x01, 0x64, 0x13, 0xFF, 0xFF, 0xEC, 0x78, 0xDC],
     );

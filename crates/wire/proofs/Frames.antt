@@ -2,7 +2,7 @@
 use mathlib.Core.Path.{_≡_, refl, sym, ap, _∙_}
 use mathlib.Core.Bool.{Bool, true, false, _&&_}
 use mathlib.Core.List.{List, [], _∷_}
-use Prim.Native.Nat.{ℕ, zero, suc, _+_, _%_, _≤_, _<_}
+use Prim.Native.Nat.{ℕ, zero, suc, _+_, _%_, _<_}
 use native.Mathlib.Omega.{arith}
 use borrow.Author.Tests.{eq-eqb, ne-eqb, eqb-true, eqb-false, ltb-true, ltb-false}
 use lib.Dec.{eqb, ltb}
@@ -13,7 +13,7 @@ use mir.Syntax.{w32}
 use mir.Val.{SFits}
 use Rattle.words.specs.declared.Four.{Four}
 use Rattle.words.specs.Bytes.{fourOf, fourAt, wordAt}
-use Rattle.words.specs.Laws.{AllBytes, FourBytes}
+use Rattle.words.specs.Laws.{AllBytes}
 use Rattle.words.proofs.Trips.{split-join, join-split}
 use Rattle.checksum.specs.Checksum.{total, checksum, rightFrame}
 use Rattle.wire.specs.Frame.{seven, summed, frame, writtenStatus}

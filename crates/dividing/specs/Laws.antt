@@ -16,8 +16,8 @@ pub record Laws : Type 0 where
   pub small : (a b : ℤ) → isZero b ≡ false → natAbs (remZ a b) < natAbs b
   pub sign-up : (a b : ℤ) → leZ (pos 0) a ≡ true → leZ (pos 0) (remZ a b) ≡ true
   pub sign-down : (a b : ℤ) → leZ a (pos 0) ≡ true → leZ (remZ a b) (pos 0) ≡ true
-  -- the answers are words; only -2147483648 by -1 wraps
-  pub quotient-word : (a b : ℤ) → SFits w32 a → (b ≡ negsuc 0 → ⊥) → SFits w32 (quotZ a b)
+  -- the answers are words without wrapping, but for -2147483648 by -1
+  pub quotient-word : (a b : ℤ) → SFits w32 a → (a ≡ negsuc 2147483647 → b ≡ negsuc 0 → ⊥) → SFits w32 (quotZ a b)
   pub remainder-word : (a b : ℤ) → SFits w32 a → SFits w32 (remZ a b)
   -- an answer is known by its numbers
   pub one-answer : (x y : Divided) → answerOf x ≡ answerOf y → x ≡ y

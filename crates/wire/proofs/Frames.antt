@@ -1,8 +1,9 @@
 -- The laws of frames. Assumes nothing.
 use mathlib.Core.Path.{_≡_, refl, sym, ap, _∙_}
-use mathlib.Core.Bool.{Bool, true, false, _&&_}
+use mathlib.Core.Bool.{Bool, true, false, _&&_, false≢true}
 use mathlib.Core.List.{List, [], _∷_}
 use Prim.Native.Nat.{ℕ, zero, suc, _+_, _%_, _<_}
+use native.Mathlib.Nat.{add-comm, add-mod-mod}
 use native.Mathlib.Omega.{arith}
 use borrow.Author.Tests.{eq-eqb, ne-eqb, eqb-true, eqb-false, ltb-true, ltb-false}
 use lib.Dec.{eqb, ltb}
@@ -33,7 +34,7 @@ made-value a b c d v f = split-join v f
 -- what a right frame is
 and-true : (a b : Bool) → a && b ≡ true → (a ≡ true) × (b ≡ true)
 and-true true b h = (refl, h)
-and-true false b h = let e : _≡_ {A = Bool} false true = cc in absurd (let z : _≡_ {A = ℕ} 0 1 = cc in omega arith)
+and-true false b h = absurd (false≢true h)
 
 pub right-parts : (s : List ℕ) → rightFrame s ≡ true → (length s ≡ 9) × (checksum (take 8 s) ≡ getD s 8 0)
 unfolding rightFrame
@@ -107,19 +108,15 @@ two-changed s i j b c r hi hj n =
     ∙ rw (getD-set-other t j 8 c 0 (λ q. omega arith), getD-set-other s i 8 b 0 (λ q. omega arith))
     (same-test ((b + c) % 256) ((getD s i 0 + getD s j 0) % 256) (checksum (take 8 (set t j c))) (getD s 8 0) (λ q. omega (arith, p .1, e, f, q)) (λ q. omega (arith, p .1, e, f, q)))
 
--- a remainder in a sum
-lost : (u b : ℕ) → (b + u % 256) % 256 ≡ (u + b) % 256
-lost u b = omega arith
-
 -- b and s have the sum of t and x, modulo 256
 carried : (t x u b s : ℕ) → t + x ≡ u + b → u % 256 ≡ s → (b + s) % 256 ≡ (t + x) % 256
-carried t x u b s e r = rw (e, ← r) (lost u b)
+carried t x u b s e r = rw (e, ← r, add-mod-mod b u 256, add-comm b u)
 
 shifted : (t x c : ℕ) → c < 256 → (x + c) % 256 ≡ (t + x) % 256 → t % 256 ≡ c
 shifted t x c h e = omega arith
 
 unshifted : (t x c : ℕ) → t % 256 ≡ c → (x + c) % 256 ≡ (t + x) % 256
-unshifted t x c e = rw (← e) (lost t x)
+unshifted t x c e = rw (← e, add-mod-mod x t 256, add-comm x t)
 
 pub sum-changed : (s : List ℕ) (i b c : ℕ) → rightFrame s ≡ true → i < 8 → c < 256 → rightFrame (set (set s i b) 8 c) ≡ eqb ((getD s i 0 + c) % 256) ((b + getD s 8 0) % 256)
 sum-changed s i b c r hi hc =

@@ -1,0 +1,45 @@
+-- A row with a mask allows just the values of its set. Assumes nothing.
+use Prim.Native.Nat.{ℕ, zero, suc, _+_, _≤_, _<_}
+use native.Mathlib.Omega.{arith}
+use mathlib.Core.Path.{_≡_, refl, sym, _∙_}
+use mathlib.Core.Bool.{Bool, true, false, _||_}
+use mathlib.Core.List.{List, [], _∷_}
+use borrow.Author.Tests.{leb-true, leb-false, lt-leb}
+use lib.Dec.{T, eqb, leb, leb·zero}
+use lib.IntN.{ℤ, pos, negsuc}
+use Rattle.words.specs.Word.{word}
+use Rattle.sheet.specs.Laws.{oneOf}
+use Rattle.sheet.specs.Row.{allowed}
+use Rattle.sheet.specs.declared.Row.{Row}
+use Rattle.sheet.specs.declared.Access.{Access}
+use Rattle.sheet.proofs.Below.{allBelow, below}
+
+abbrev same : Bool → Bool → Bool
+same true b = b
+same false true = false
+same false false = true
+
+same-eq : (a b : Bool) → T (same a b) → a ≡ b
+same-eq true true t = refl
+same-eq true false t = absurd t
+same-eq false true t = absurd t
+same-eq false false t = refl
+
+module _ (n : ℕ) (a : Access) (high mask : ℕ) (d : ℤ) (xs : List ℕ) where
+  abbrev row : Row
+  row = record { number = n; access = a; low = word (pos 0); high = word (pos high); standard = word d; mask = mask }
+
+  abbrev right : ℕ → Bool
+  right k = same (allowed row (pos k)) (oneOf xs (pos k))
+
+  -- from a test up to the highest, and none of the set above it
+  pub set-row : T (allBelow right (high + 1)) → ((k : ℕ) → high < k → oneOf xs (pos k) ≡ false) → (z : ℤ) → allowed row z ≡ oneOf xs z
+  unfolding allowed
+  set-row t above (negsuc k) = refl
+  set-row t above (pos k) = go (leb k high) refl
+    where
+      go : (b : Bool) → leb k high ≡ b → allowed row (pos k) ≡ oneOf xs (pos k)
+      go true e =
+          let h = leb-true k high e in
+          same-eq (allowed row (pos k)) (oneOf xs (pos k)) (below right (high + 1) t k (omega arith))
+      go false e = simp (leb·zero k, e, above k (leb-false k high e))

@@ -1,0 +1,6 @@
+pub mod Row
+pub mod Sheet
+pub mod Rows
+pub mod Line
+pub mod Places
+pub mod Laws

@@ -1,0 +1,16 @@
+-- Where a number stands in a list of rows.
+use Prim.Native.Nat.{ℕ, zero, suc, _+_}
+use mathlib.Core.List.{List, [], _∷_}
+use lib.Dec.{eqb}
+use Rattle.words.specs.Word.{pick}
+use Rattle.sheet.specs.declared.Row.{Row}
+
+-- the place of the first row of that number, or how many there are
+abbrev pub placeIn : List Row → ℕ → ℕ
+placeIn [] n = 0
+placeIn (r ∷ rs) n = pick (eqb n (r .number)) 0 (placeIn rs n + 1)
+
+-- what a function gives at the n numbers from i on
+abbrev pub tabulate : {A : Type 0} → (ℕ → A) → ℕ → ℕ → List A
+tabulate f i zero = []
+tabulate f i (suc n) = f i ∷ tabulate f (i + 1) n

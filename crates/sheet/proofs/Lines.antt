@@ -5,7 +5,7 @@ use native.Mathlib.Omega.{arith}
 use mathlib.Core.Path.{_≡_, refl, sym, ap, _∙_}
 use mathlib.Core.Bool.{Bool, true, false}
 use mathlib.Core.List.{List, [], _∷_, _++_}
-use lib.ListN.{length, getD, drop, take, replicate}
+use lib.ListN.{length, getD, drop, take, replicate, List·getD-append}
 use lib.Seq.{getD-drop}
 use Rattle.words.specs.Word.{pick}
 use Rattle.sheet.specs.Line.{accessOf, codeOf, lineOf, rowOf, linesFrom, noLine}
@@ -29,6 +29,10 @@ pub line-row : (c : ℕ) (t after : List Row) (i : ℕ) → i < length t → row
 line-row c [] after i h = absurd (not-suc-le-zero h)
 line-row c (r ∷ rs) after zero h = same-row c r
 line-row c (r ∷ rs) after (suc i) h = line-row (pick (stored (r .access)) (c + 1) c) rs after i (le-of-suc-le-suc h)
+
+-- a parameter's row is the one of that place among all the values'
+pub parameter-row : (t after : List Row) (i : ℕ) → i < length t → rowAt (t ++ after) i ≡ rowAt t i
+parameter-row t after i h = List·getD-append t after userRow i h
 
 -- counted from n on
 pub from : (t : List Row) (n i : ℕ) → n ≤ i → rowAt (drop n t) (i - n) ≡ rowAt t i

@@ -4,19 +4,22 @@ use native.Mathlib.Omega.{arith}
 use mathlib.Core.Path.{_≡_, refl, sym, subst}
 use mathlib.Core.Bool.{Bool, true, false, _&&_}
 use mathlib.Core.List.{List, [], _∷_, _++_}
-use borrow.Author.Tests.{ne-eqb}
+use borrow.Author.Tests.{ne-eqb, le-leb}
 use lib.Dec.{T, ltb, ltb→lt}
-use lib.IntN.{pos}
+use lib.IntN.{ℤ, pos, negsuc}
 use lib.ListN.{length}
+use mir.Syntax.{w32}
+use mir.Val.{SFits}
 use Rattle.words.specs.Word.{pick}
 use Rattle.words.specs.declared.Word.{Word}
 use Rattle.sheet.specs.Laws.{Laws, Rising, oneOf, parameter}
 use Rattle.sheet.specs.Row.{allowed, taken}
-use Rattle.sheet.specs.Rows.{rows, rowAt}
-use Rattle.sheet.specs.Sheet.{axis, globals, readOnly, rwe, rw, r, userRow}
+use Rattle.sheet.specs.Rows.{parameters, rows, rowAt}
+use Rattle.sheet.specs.Sheet.{axis, globals, readOnly, rweRows, rwRows, rRows, userRow}
 use Rattle.sheet.specs.declared.Row.{Row}
 use Rattle.sheet.specs.declared.Access.the-variants.{Rwe}
-use Rattle.sheet.proofs.Below.{allBelow, below, and-left, and-right}
+use Rattle.sheet.specs.Places.{allBelow}
+use Rattle.sheet.proofs.Below.{below, and-left, and-right}
 use Rattle.sheet.proofs.Counts.{own, rise}
 use Rattle.sheet.proofs.Sets.{set-row}
 
@@ -45,7 +48,7 @@ each (x ∷ xs) h zero = and-left (sound x) (every xs) h
 each (x ∷ xs) h (suc i) = each xs (and-right (sound x) (every xs) h) i
 
 pub defaults : (i : ℕ) → T (allowed (rowAt rows i) (rowAt rows i .standard .v))
-unfolding every sound allowed rows axis globals rwe rw r
+unfolding every sound allowed rows parameters axis globals rweRows rwRows rRows
 defaults = each rows tt
 
 -- what is taken is allowed where the default is
@@ -57,6 +60,12 @@ pub takes : (i : ℕ) (w : Word) → T (allowed (rowAt rows i) (taken (rowAt row
 unfolding taken
 takes i w = take-by (rowAt rows i) w (allowed (rowAt rows i) (w .v)) refl (defaults i)
 
+-- every word is within 32 bits
+pub user-variable : (z : ℤ) → SFits w32 z → allowed userRow z ≡ true
+unfolding allowed
+user-variable (pos n) f = let h = f .sfits in simp (le-leb n 2147483647 (omega arith))
+user-variable (negsuc n) f = let h = f .sfits in simp (le-leb n 2147483647 (omega arith))
+
 none-14 : (k : ℕ) → 3 < k → oneOf (0 ∷ 1 ∷ 3 ∷ []) (pos k) ≡ false
 none-14 k h = simp (ne-eqb k 0 (λ e. omega arith), ne-eqb k 1 (λ e. omega arith), ne-eqb k 3 (λ e. omega arith))
 
@@ -64,11 +73,12 @@ none-102 : (k : ℕ) → 2 < k → oneOf (0 ∷ 2 ∷ []) (pos k) ≡ false
 none-102 k h = simp (ne-eqb k 0 (λ e. omega arith), ne-eqb k 2 (λ e. omega arith))
 
 pub laws : Laws
-unfolding rows axis globals readOnly rwe rw r allowed risen above
+unfolding rows parameters axis globals readOnly rweRows rwRows rRows allowed risen above
 laws =
     record {
       rwe-rows = refl;
       axis-rows = refl;
+      parameter-rows = refl;
       all-rows = refl;
       rising = rises axis tt;
       globals-rising = rises (globals ++ readOnly) tt;
@@ -78,6 +88,7 @@ laws =
       cells-rise = rise rows;
       defaults = defaults;
       takes = takes;
+      user-variable = user-variable;
       set-14 = set-row 14 Rwe 3 11 (pos 3) (0 ∷ 1 ∷ 3 ∷ []) tt none-14;
       set-102 = set-row 102 Rwe 2 5 (pos 0) (0 ∷ 2 ∷ []) tt none-102;
       not-1 = refl;

@@ -12,7 +12,8 @@ use Rattle.sheet.specs.Laws.{oneOf}
 use Rattle.sheet.specs.Row.{allowed}
 use Rattle.sheet.specs.declared.Row.{Row}
 use Rattle.sheet.specs.declared.Access.{Access}
-use Rattle.sheet.proofs.Below.{allBelow, below}
+use Rattle.sheet.specs.Places.{allBelow}
+use Rattle.sheet.proofs.Below.{below}
 
 abbrev same : Bool → Bool → Bool
 same true b = b

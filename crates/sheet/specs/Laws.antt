@@ -6,10 +6,12 @@ use mathlib.Core.List.{List, [], _∷_, _++_, map}
 use lib.Dec.{T, eqb}
 use lib.IntN.{ℤ, pos, negsuc}
 use lib.ListN.{length, getD, replicate}
+use mir.Syntax.{w32}
+use mir.Val.{SFits}
 use Rattle.words.specs.declared.Word.{Word}
 use Rattle.sheet.specs.Row.{allowed, taken, stored}
-use Rattle.sheet.specs.Sheet.{axis, globals, readOnly, rwe, userRow}
-use Rattle.sheet.specs.Rows.{rows, rowAt, cells, cellOf}
+use Rattle.sheet.specs.Sheet.{axis, globals, readOnly, rweRows, userRow}
+use Rattle.sheet.specs.Rows.{parameters, rows, rowAt, cells, cellOf}
 use Rattle.sheet.specs.Places.{placeIn}
 use Rattle.sheet.specs.declared.Row.{Row}
 
@@ -29,8 +31,9 @@ Rising t = (i j : ℕ) → i < j → j < length t → rowAt t i .number < rowAt 
 
 pub record Laws : Type 0 where
   -- "the 31 RWE axis parameters", 43 axis parameters in all, and 103 working values
-  pub rwe-rows : length rwe ≡ 31
+  pub rwe-rows : length rweRows ≡ 31
   pub axis-rows : length axis ≡ 43
+  pub parameter-rows : length parameters ≡ 47
   pub all-rows : length rows ≡ 103
   pub rising : Rising axis
   pub globals-rising : Rising (globals ++ readOnly)
@@ -46,6 +49,8 @@ pub record Laws : Type 0 where
   -- every default is allowed, so what is taken from a cell is allowed, whatever the cell holds
   pub defaults : (i : ℕ) → T (allowed (rowAt rows i) (rowAt rows i .standard .v))
   pub takes : (i : ℕ) (w : Word) → T (allowed (rowAt rows i) (taken (rowAt rows i) w .v))
+  -- "Bank 2: 0 to 55, all values"
+  pub user-variable : (z : ℤ) → SFits w32 z → allowed userRow z ≡ true
   -- "14: {0,1,3}", "102: {0,2}", of all whole numbers
   pub set-14 : (z : ℤ) → allowed (parameter 14) z ≡ oneOf (0 ∷ 1 ∷ 3 ∷ []) z
   pub set-102 : (z : ℤ) → allowed (parameter 102) z ≡ oneOf (0 ∷ 2 ∷ []) z

@@ -1,11 +1,11 @@
 -- The lines of the code's table: a row's numbers, and its cell.
 use Prim.Native.Nat.{ℕ, _+_}
-use mathlib.Core.List.{List, [], _∷_, _++_}
+use mathlib.Core.List.{List, [], _∷_}
 use lib.Dec.{eqb}
 use lib.IntN.{pos}
 use Rattle.words.specs.Word.{word, pick}
 use Rattle.sheet.specs.Row.{stored}
-use Rattle.sheet.specs.Sheet.{axis, globals}
+use Rattle.sheet.specs.Rows.{parameters}
 use Rattle.sheet.specs.declared.Access.{Access}
 use Rattle.sheet.specs.declared.Access.the-variants.{Rwe, Rw, R}
 use Rattle.sheet.specs.declared.Row.{Row}
@@ -49,8 +49,8 @@ linesFrom c [] = []
 linesFrom c (r ∷ rs) = lineOf c r ∷ linesFrom (pick (stored (r .access)) (c + 1) c) rs
 
 unfoldable pub lines : List Line
-unfolding axis globals
-lines = linesFrom 0 (axis ++ globals)
+unfolding parameters
+lines = linesFrom 0 parameters
 
 abbrev pub noLine : Line
 noLine = record { 0 = 0; 1 = 0; 2 = pos 0; 3 = pos 0; 4 = pos 0; 5 = 0; 6 = 0 }

@@ -1,5 +1,6 @@
--- Where a number stands in a list of rows.
+-- Where a number stands in a list of rows, and what holds place by place.
 use Prim.Native.Nat.{ℕ, zero, suc, _+_}
+use mathlib.Core.Bool.{Bool, true, _&&_}
 use mathlib.Core.List.{List, [], _∷_}
 use lib.Dec.{eqb}
 use Rattle.words.specs.Word.{pick}
@@ -14,3 +15,8 @@ placeIn (r ∷ rs) n = pick (eqb n (r .number)) 0 (placeIn rs n + 1)
 abbrev pub tabulate : {A : Type 0} → (ℕ → A) → ℕ → ℕ → List A
 tabulate f i zero = []
 tabulate f i (suc n) = f i ∷ tabulate f (i + 1) n
+
+-- a test that holds at every number below n
+abbrev pub allBelow : (ℕ → Bool) → ℕ → Bool
+allBelow f zero = true
+allBelow f (suc n) = f n && allBelow f n

@@ -9,10 +9,15 @@ use Rattle.sheet.specs.Row.{stored}
 use Rattle.sheet.specs.Sheet.{axis, globals, userRow}
 use Rattle.sheet.specs.declared.Row.{Row}
 
--- the working values: axis parameters, globals, user variables
-unfoldable pub rows : List Row
+-- what may be out of range: axis parameters and globals
+unfoldable pub parameters : List Row
 unfolding axis globals
-rows = axis ++ globals ++ replicate 56 userRow
+parameters = axis ++ globals
+
+-- the working values: these, and the user variables
+unfoldable pub rows : List Row
+unfolding parameters
+rows = parameters ++ replicate 56 userRow
 
 abbrev pub rowAt : List Row → ℕ → Row
 rowAt t i = getD t i userRow

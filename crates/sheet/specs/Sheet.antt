@@ -26,8 +26,8 @@ among a n set high d =
 abbrev pub whole : Access → List ℕ → ℤ → List Row
 whole a ns d = span a ns (negsuc 2147483647) (pos 2147483647) d
 
-unfoldable pub rwe : List Row
-rwe =
+unfoldable pub rweRows : List Row
+rweRows =
     span Rwe (10 ∷ []) (pos 1) (pos 255) (pos 4)
     ++ span Rwe (11 ∷ []) (pos 0) (pos 18000) (pos 2000)
     ++ among Rwe 14 (0 ∷ 1 ∷ 3 ∷ []) 3 (pos 3)
@@ -52,11 +52,11 @@ rwe =
     ++ span Rwe (141 ∷ []) (pos 60) (pos 300) (pos 300)
     ++ span Rwe (142 ∷ []) (pos 0) (pos 50) (pos 5)
 
-unfoldable pub rw : List Row
-rw = whole Rw (50 ∷ 52 ∷ 240 ∷ []) (pos 0) ++ span Rw (209 ∷ 210 ∷ []) (pos 0) (pos 7) (pos 0)
+unfoldable pub rwRows : List Row
+rwRows = whole Rw (50 ∷ 52 ∷ 240 ∷ []) (pos 0) ++ span Rw (209 ∷ 210 ∷ []) (pos 0) (pos 7) (pos 0)
 
-unfoldable pub r : List Row
-r =
+unfoldable pub rRows : List Row
+rRows =
     whole R (51 ∷ []) (pos 0)
     ++ span R (55 ∷ 211 ∷ 212 ∷ 213 ∷ []) (pos 0) (pos 1) (pos 0)
     ++ span R (220 ∷ []) (pos 0) (pos 1000) (pos 240)
@@ -73,8 +73,8 @@ rising (x ∷ xs) = insert x (rising xs)
 
 -- the axis parameters
 unfoldable pub axis : List Row
-unfolding rwe rw r
-axis = rising (rwe ++ rw ++ r)
+unfolding rweRows rwRows rRows
+axis = rising (rweRows ++ rwRows ++ rRows)
 
 -- "Globals, bank 0": each is written to its cell at once, so its access has the E of a row that has a cell
 unfoldable pub globals : List Row

@@ -1,13 +1,13 @@
 -- `sheet::axis_place` meets its contract. Assumes nothing.
 use mathlib.Core.Path.{_∙_}
 use borrow.Author.Needs.{needs}
-use Rattle.sheet.specs.Sheet.{axis, rwe, rw, r}
+use Rattle.sheet.specs.Sheet.{axis, rweRows, rwRows, rRows}
 use Rattle.sheet.proofs.Placed.{placed}
 use Rattle.sheet.proofs.places.axis_place.Statement.{statement}
 use Rattle.sheet.proofs.places.axis_place.Tie as tie
 
 returns : tie.Need-returns
-unfolding axis rwe rw r
+unfolding axis rweRows rwRows rRows
 returns c =
     let l = c .before .before in
     let h = l .before in

@@ -2,12 +2,13 @@
 use mathlib.Core.Path.{refl}
 use borrow.Author.Needs.{needs}
 use Rattle.sheet.specs.Line.{lines}
-use Rattle.sheet.specs.Sheet.{axis, globals, rwe, rw, r}
+use Rattle.sheet.specs.Rows.{parameters}
+use Rattle.sheet.specs.Sheet.{axis, globals, rweRows, rwRows, rRows}
 use Rattle.sheet.proofs.table.line_at.Statement.{statement}
 use Rattle.sheet.proofs.table.line_at.Tie as tie
 
 returns : tie.Need-returns
-unfolding lines axis globals rwe rw r
+unfolding lines parameters axis globals rweRows rwRows rRows
 returns c = refl
 
 pub line-at-spec : {M : Type 1} → statement M

@@ -1,0 +1,18 @@
+-- `values::put_value` meets its contract. Assumes nothing.
+use mir.Syntax.{w32}
+use mir.ValLaws.{toZ-ofZ}
+use borrow.Author.Needs.{needs}
+use borrow.Author.Tests.{lt-ltb, le-ltb}
+use Rattle.values.proofs.put_value.Statement.{statement}
+use Rattle.values.proofs.put_value.Tie as tie
+
+returns : tie.Need-returns
+returns c =
+    let a = c .before .before .args in
+    simp (lt-ltb _ _ (c .before .if1 .taken), toZ-ofZ w32 (a .w .v) (search needs))
+
+returns-2 : tie.Need-returns-2
+returns-2 c = simp (le-ltb _ _ (c .if1 .left))
+
+pub put-value-spec : {M : Type 1} → statement M
+put-value-spec = tie.close (tie.spec (λ c. search needs) (λ c. search needs) returns returns-2)

@@ -1,0 +1,34 @@
+-- The working values. Each rule takes the rows as an argument.
+use Prim.Native.Nat.{ℕ}
+use mathlib.Core.Bool.{Bool}
+use mathlib.Core.List.{List}
+use lib.Dec.{ltb}
+use lib.IntN.{ℤ, pos}
+use lib.ListN.{length, getD, set}
+use Rattle.words.specs.Word.{pick, word}
+use Rattle.words.specs.declared.Word.{Word}
+use Rattle.sheet.specs.Row.{allowed, taken, stored}
+use Rattle.sheet.specs.Rows.{rowAt, cellOf}
+use Rattle.sheet.specs.Places.{tabulate, allBelow}
+use Rattle.sheet.specs.declared.Row.{Row}
+use Rattle.store.specs.Store.{cellAt}
+
+-- the value at a place; 0 past the last of the 103
+abbrev pub valueAt : List ℤ → ℕ → Word
+valueAt vs i = pick (ltb i 103) (word (getD vs i (pos 0))) (word (pos 0))
+
+-- with the value at a place set; past the last there is none
+abbrev pub setValue : List ℤ → ℕ → ℤ → List ℤ
+setValue vs i z = pick (ltb i 103) (set vs i z) vs
+
+-- each parameter is allowed by its row
+unfoldable pub valuesInRange : List Row → List ℤ → Bool
+valuesInRange t vs = allBelow (λ i. allowed (rowAt t i) (getD vs i (pos 0))) (length t)
+
+-- "Power-up takes each cell's value if it is in range, else the default. Non-stored parameters take defaults"
+unfoldable pub poweredAt : List Row → List ℕ → ℕ → Word
+poweredAt t s i =
+    pick (stored (rowAt t i .access)) (taken (rowAt t i) (cellAt s (cellOf t i))) (rowAt t i .standard)
+
+unfoldable pub poweredValues : List Row → List ℕ → List ℤ
+poweredValues t s = tabulate (λ i. poweredAt t s i .v) 0 (length t)

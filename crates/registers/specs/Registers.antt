@@ -1,0 +1,89 @@
+-- The registers that are no arrays, and what power-up, a tick and a sample's alarms make of them: "Registers: accumulator, X, last
+-- comparison, flags ETO EAL EDV EPO, program address 0 to 1,024, running or not, armed wait, download mode and write address,
+-- motion order (stopped, velocity, position) .. A dropped wait and freed stack entries become 0; what no rule names stays."
+use Prim.Native.Nat.{ℕ, _-_}
+use mathlib.Core.Bool.{Bool, true, false, _&&_}
+use lib.Dec.{ltb}
+use lib.IntN.{pos}
+use Rattle.words.specs.Word.{pick, word}
+use Rattle.order.specs.declared.Compared.the-variants.{Equal}
+use Rattle.registers.specs.declared.Flags.{Flags}
+use Rattle.registers.specs.declared.Alarms.{Alarms}
+use Rattle.registers.specs.declared.Wait.{Wait}
+use Rattle.registers.specs.declared.Download.{Download}
+use Rattle.registers.specs.declared.Core.{Core}
+use Rattle.registers.specs.declared.Order.the-variants.{Stopped}
+
+-- ---- one part changed, and nothing else
+abbrev pub withWait : Wait → Core → Core
+withWait w c =
+    record {
+      accumulator = c .accumulator;
+      x = c .x;
+      last = c .last;
+      flags = c .flags;
+      address = c .address;
+      running = c .running;
+      wait = w;
+      motion = c .motion;
+      depth = c .depth;
+    }
+
+abbrev pub withFlags : Flags → Core → Core
+withFlags f c =
+    record {
+      accumulator = c .accumulator;
+      x = c .x;
+      last = c .last;
+      flags = f;
+      address = c .address;
+      running = c .running;
+      wait = c .wait;
+      motion = c .motion;
+      depth = c .depth;
+    }
+
+-- ---- a sample
+-- "an alarm that is on sets EAL, EDV or EPO, one that is off clears nothing"
+abbrev pub raisedFlag : Bool → ℕ → ℕ
+raisedFlag on flag = pick on 1 flag
+
+unfoldable pub raised : Alarms → Flags → Flags
+raised a f =
+    record {
+      eto = f .eto;
+      eal = raisedFlag (a .eal) (f .eal);
+      edv = raisedFlag (a .edv) (f .edv);
+      epo = raisedFlag (a .epo) (f .epo);
+    }
+
+-- ---- a tick
+-- "A dropped wait .. become[s] 0"
+abbrev pub droppedWait : Wait
+droppedWait = record { armed = false; count = 0; timed = false }
+
+abbrev pub counted : ℕ → Wait → Wait
+counted n w = record { armed = w .armed; count = n; timed = w .timed }
+
+-- "lowers an armed wait's count by one if it is above 0"
+unfoldable pub ticked : Wait → Wait
+ticked w = pick (w .armed && ltb 0 (w .count)) (counted (w .count - 1) w) w
+
+-- ---- power-up
+abbrev pub noDownload : Download
+noDownload = record { on = false; address = 0 }
+
+-- "registers are 0, last comparison "equal", the stack empty, order stopped. Running exactly if global 77 is 1"
+abbrev pub poweredCore : Bool → Core
+poweredCore running =
+    record {
+      accumulator = word (pos 0);
+      x = word (pos 0);
+      last = Equal;
+      flags = record { eto = 0; eal = 0; edv = 0; epo = 0 };
+      address = 0;
+      running = running;
+      wait = droppedWait;
+      motion = record { order = Stopped; velocity = word (pos 0) };
+      depth = 0;
+    }

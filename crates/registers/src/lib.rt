@@ -1,0 +1,215 @@
+// The scalar registers, by value, and which registers are in range.
+//
+// No method requires anything: flags, addresses and the depth stand in types that hold values out of
+// range too, since registers can be handed in so. The arrays are lent and are judged apart.
+ghost use mathlib.Core.Path.{_≡_};
+ghost use Rattle.registers.specs.Laws.{Laws};
+ghost use Rattle.registers.specs.Range.{flagsInRange, coreInRange, downloadInRange};
+ghost use Rattle.registers.specs.Registers.{
+  withWait,
+  withFlags,
+  raisedFlag,
+  raised,
+  droppedWait,
+  ticked,
+  poweredCore,
+  noDownload,
+};
+
+mod lent;
+
+pub use lent::analog_in_range;
+pub use lent::bits_in_range;
+pub use lent::each_up_to;
+pub use lent::entries_in_range;
+use order::Compared;
+use words::Word;
+
+// ETO, EAL, EDV and EPO, each 0 or 1 where it is in range.
+pub struct Flags {
+    pub eto: u8,
+    pub eal: u8,
+    pub edv: u8,
+    pub epo: u8,
+}
+
+// Which alarms a sample has on.
+pub struct Alarms {
+    pub eal: bool,
+    pub edv: bool,
+    pub epo: bool,
+}
+
+// `timed`: the value that the wait was armed with was above 0, so that a count of 0 means its end.
+pub struct Wait {
+    pub armed: bool,
+    pub count: u32,
+    pub timed: bool,
+}
+
+pub enum Order {
+    Stopped,
+    Velocity,
+    Position,
+}
+
+pub struct Motion {
+    pub order: Order,
+    pub velocity: Word,
+}
+
+// Download mode and the write address.
+pub struct Download {
+    pub on: bool,
+    pub address: u16,
+}
+
+// What a step changes, without the arrays: a copy of it stays in machine registers.
+pub struct Core {
+    pub accumulator: Word,
+    pub x: Word,
+    pub last: Compared,
+    pub flags: Flags,
+    pub address: u16,
+    pub running: bool,
+    pub wait: Wait,
+    pub motion: Motion,
+    pub depth: u8,
+}
+
+// A flag after its alarm.
+fn raised_flag(alarm: bool, flag: u8) -> u8
+    ensures { λ r. ⌜ r ≡ raisedFlag alarm flag ⌝ }
+{
+    if alarm { 1 } else { flag }
+}
+
+impl Flags {
+    // Whether each flag is 0 or 1.
+    pub fn in_range(self) -> bool
+        ensures { λ r. ⌜ r ≡ flagsInRange self ⌝ }
+    {
+        let bits = [self.eto, self.eal, self.edv, self.epo];
+        bits_in_range(&bits)
+    }
+
+    // An alarm that is on sets its flag, one that is off clears nothing.
+    pub fn raised(self, alarms: Alarms) -> Self
+        ensures { λ r. ⌜ r ≡ raised alarms self ⌝ }
+    {
+        Flags {
+            eto: self.eto,
+            eal: raised_flag(alarms.eal, self.eal),
+            edv: raised_flag(alarms.edv, self.edv),
+            epo: raised_flag(alarms.epo, self.epo),
+        }
+    }
+}
+
+impl Wait {
+    // No wait.
+    pub fn dropped() -> Self
+        ensures { λ r. ⌜ r ≡ droppedWait ⌝ }
+    {
+        Wait {
+            armed: false,
+            count: 0,
+            timed: false,
+        }
+    }
+
+    // After 10 ms more.
+    pub fn ticked(self) -> Self
+        ensures { λ r. ⌜ r ≡ ticked self ⌝ }
+    {
+        let count = self.count;
+        if self.armed && 0 < count {
+            Wait {
+                armed: self.armed,
+                count: count - 1,
+                timed: self.timed,
+            }
+        } else {
+            self
+        }
+    }
+}
+
+impl Download {
+    // Not in download mode.
+    pub fn none() -> Self
+        ensures { λ r. ⌜ r ≡ noDownload ⌝ }
+    {
+        Download {
+            on: false,
+            address: 0,
+        }
+    }
+
+    // Whether the write address is at most 1024, in download mode or not.
+    pub fn in_range(self) -> bool
+        ensures { λ r. ⌜ r ≡ downloadInRange self ⌝ }
+    {
+        self.address <= 1024
+    }
+}
+
+impl Core {
+    // What power-up leaves, running or not.
+    pub fn powered(running: bool) -> Self
+        ensures { λ r. ⌜ r ≡ poweredCore running ⌝ }
+    {
+        Core {
+            accumulator: Word { v: 0 },
+            x: Word { v: 0 },
+            last: Compared::Equal,
+            flags: Flags {
+                eto: 0,
+                eal: 0,
+                edv: 0,
+                epo: 0,
+            },
+            address: 0,
+            running: running,
+            wait: Wait::dropped(),
+            motion: Motion {
+                order: Order::Stopped,
+                velocity: Word { v: 0 },
+            },
+            depth: 0,
+        }
+    }
+
+    // Whether the address is at most 1024, the depth at most 8, and the flags are in range. A word,
+    // a wait and a motion order have no value out of range.
+    pub fn in_range(self) -> bool
+        ensures { λ r. ⌜ r ≡ coreInRange self ⌝ }
+    {
+        if self.address <= 1024 && self.depth <= 8 {
+            self.flags.in_range()
+        } else {
+            false
+        }
+    }
+
+    // The wait after 10 ms more, and nothing else changed.
+    pub fn ticked(mut self) -> Self
+        ensures { λ r. ⌜ r ≡ withWait (ticked (self .wait)) self ⌝ }
+    {
+        self.wait = self.wait.ticked();
+        self
+    }
+
+    // The flags after a sample's alarms, and nothing else changed.
+    pub fn alarmed(mut self, alarms: Alarms) -> Self
+        ensures { λ r. ⌜ r ≡ withFlags (raised alarms (self .flags)) self ⌝ }
+    {
+        self.flags = self.flags.raised(alarms);
+        self
+    }
+}
+
+// The laws of the registers, held to be proved: the function does nothing.
+pub fn laws()
+    ensures { λ _. ⌜ Laws ⌝ }
+{}

@@ -1,0 +1,79 @@
+// The inputs and the alarms.
+ghost use mathlib.Core.Path.{_≡_};
+ghost use Rattle.sampling.specs.Sample.{
+  isOn,
+  bitOf,
+  inputsInRange,
+  signalsInRange,
+  digitalOf,
+  analogOf,
+  alarmsOf,
+};
+use crate::Inputs;
+use crate::Signals;
+use registers::Alarms;
+use words::Word;
+
+fn is_on(w: Word) -> bool
+    ensures { λ r. ⌜ r ≡ isOn (w .v) ⌝ }
+{
+    order::equals(w, Word { v: 1 })
+}
+
+fn bit(w: Word) -> u8
+    ensures { λ r. ⌜ r ≡ bitOf (w .v) ⌝ }
+{
+    if is_on(w) { 1 } else { 0 }
+}
+
+impl Inputs {
+    // Whether the digital inputs are 0 or 1 and the analog inputs 0 to 65535.
+    pub fn in_range(self) -> bool
+        ensures { λ r. ⌜ r ≡ inputsInRange self ⌝ }
+    {
+        let a = self.digital_0;
+        let b = self.digital_1;
+        let bits = [a.v, b.v];
+        if !registers::each_up_to(&bits, Word { v: 1 }) {
+            return false;
+        }
+        let analog = self.analog();
+        registers::analog_in_range(&analog)
+    }
+
+    pub fn digital(self) -> [u8; 2]
+        ensures { λ r. ⌜ r ≡ digitalOf self ⌝ }
+    {
+        [bit(self.digital_0), bit(self.digital_1)]
+    }
+
+    pub fn analog(self) -> [i32; 3]
+        ensures { λ r. ⌜ r ≡ analogOf self ⌝ }
+    {
+        [self.analog_0, self.analog_1, self.analog_2]
+    }
+}
+
+impl Signals {
+    // Whether each is 0 or 1.
+    pub fn in_range(self) -> bool
+        ensures { λ r. ⌜ r ≡ signalsInRange self ⌝ }
+    {
+        let a = self.eal;
+        let b = self.edv;
+        let c = self.epo;
+        let bits = [a.v, b.v, c.v];
+        registers::each_up_to(&bits, Word { v: 1 })
+    }
+
+    // The alarms that are on.
+    pub fn alarms(self) -> Alarms
+        ensures { λ r. ⌜ r ≡ alarmsOf self ⌝ }
+    {
+        Alarms {
+            eal: is_on(self.eal),
+            edv: is_on(self.edv),
+            epo: is_on(self.epo),
+        }
+    }
+}

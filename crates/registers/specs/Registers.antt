@@ -1,4 +1,4 @@
--- The registers that are no arrays, and what power-up, a tick and a sample's alarms make of them: "Registers: accumulator, X, last
+-- The scalar registers, and what power-up, a tick and a sample's alarms make of them: "Registers: accumulator, X, last
 -- comparison, flags ETO EAL EDV EPO, program address 0 to 1,024, running or not, armed wait, download mode and write address,
 -- motion order (stopped, velocity, position) .. A dropped wait and freed stack entries become 0; what no rule names stays."
 use Prim.Native.Nat.{ℕ, _-_}
@@ -58,7 +58,7 @@ raised a f =
     }
 
 -- ---- a tick
--- "A dropped wait .. become[s] 0"
+-- "A dropped wait and freed stack entries become 0"
 abbrev pub droppedWait : Wait
 droppedWait = record { armed = false; count = 0; timed = false }
 

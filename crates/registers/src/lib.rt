@@ -40,7 +40,8 @@ pub struct Alarms {
     pub epo: bool,
 }
 
-// `timed`: the value that the wait was armed with was above 0, so that a count of 0 means its end.
+// `timed`: the value that the wait was armed with was above 0. Its count does not tell, since it falls
+// to 0.
 pub struct Wait {
     pub armed: bool,
     pub count: u32,

@@ -1,0 +1,42 @@
+-- What the events power-up, sample and tick answer and leave: "For the other events 20, then 23 (not at power-up), then 21".
+use Prim.Native.Nat.{ℕ}
+use mathlib.Core.List.{List}
+use lib.Dec.{eqb}
+use lib.ListN.{length}
+use Rattle.words.specs.Word.{pick}
+use Rattle.sampling.specs.Sample.{sampleInRange}
+use Rattle.sampling.specs.declared.Sample.{Sample}
+use Rattle.board.specs.Registers.{powered, withSample, withTick}
+use Rattle.board.specs.Range.{registersInRange}
+use Rattle.board.specs.declared.Registers.{Registers}
+use Rattle.board.specs.declared.Answer.{Answer}
+use Rattle.board.specs.declared.Answer.the-variants.{Done, Length, Field, HandedIn}
+use Rattle.board.specs.declared.After.{After}
+
+-- 01's number of an answer
+abbrev pub statusOf : Answer → ℕ
+statusOf Done = 100
+statusOf Length = 20
+statusOf Field = 21
+statusOf HandedIn = 23
+
+-- the registers left, and the number answered
+pub record Outcome : Type 0 where
+  pub registers : Registers
+  pub status : ℕ
+
+abbrev pub outcome : ℕ → Registers → Outcome
+outcome n r = record { registers = r; status = n }
+
+abbrev pub outcomeOf : After → Outcome
+outcomeOf a = outcome (statusOf (a .answer)) (a .registers)
+
+unfoldable pub poweredUp : List ℕ → Registers → Outcome
+poweredUp s r = pick (eqb (length s) 364) (outcome 100 (powered s)) (outcome 20 r)
+
+unfoldable pub sampled : Sample → Registers → Outcome
+sampled s r =
+    pick (registersInRange r) (pick (sampleInRange s) (outcome 100 (withSample s r)) (outcome 21 r)) (outcome 23 r)
+
+unfoldable pub ticked : Registers → Outcome
+ticked r = pick (registersInRange r) (outcome 100 (withTick r)) (outcome 23 r)

@@ -1,0 +1,5 @@
+pub mod Registers
+pub mod Range
+pub mod Events
+pub mod Laws
+pub mod Examples

@@ -1,0 +1,150 @@
+// The board: its registers, by value, and the events power-up, sample and tick.
+//
+// Each event hands the registers back with its answer. A refused event hands back the registers that
+// it was given.
+ghost use mathlib.Core.Path.{_≡_};
+ghost use Rattle.board.specs.Events.{outcomeOf, poweredUp, sampled, ticked};
+ghost use Rattle.board.specs.Examples.{Examples};
+ghost use Rattle.board.specs.Laws.{Laws};
+ghost use Rattle.board.specs.Range.{registersInRange};
+ghost use Rattle.board.specs.Registers.{powered, withSample, withTick};
+use registers::Core;
+use registers::Download;
+use sampling::Sample;
+use words::Word;
+
+mod range;
+
+pub struct Registers {
+    pub core: Core,
+    pub download: Download,
+    pub outputs: [u8; 4],
+    pub digital: [u8; 2],
+    pub analog: [i32; 3],
+    // The call stack's return addresses; its depth is the core's.
+    pub entries: [u16; 8],
+    pub values: [i32; 103],
+}
+
+pub enum Answer {
+    Done,
+    // The lent store has another length.
+    Length,
+    // A field of the sample is out of range.
+    Field,
+    // The registers were handed in out of range.
+    HandedIn,
+}
+
+pub struct After {
+    pub registers: Registers,
+    pub answer: Answer,
+}
+
+impl Registers {
+    // What power-up leaves. Global 77, whether the program runs, is the last before the user
+    // variables.
+    pub fn powered(store: &[u8]) -> Self
+        ensures { λ r. ⌜ r ≡ powered (now (store .entry)) ⌝ }
+    {
+        let values = values::powered(store);
+        let running = order::equals(values::value_at(&values, 46), Word { v: 1 });
+        Registers {
+            core: Core::powered(running),
+            download: Download::none(),
+            outputs: [0u8; 4],
+            digital: [0u8; 2],
+            analog: [0i32; 3],
+            entries: [0u16; 8],
+            values: values,
+        }
+    }
+
+    // With what a sample sets, and nothing else.
+    fn sampled(mut self, s: Sample) -> Self
+        ensures { λ r. ⌜ r ≡ withSample s self ⌝ }
+    {
+        let mut values = self.values;
+        let readings = s.readings;
+        let settings = readings.settings();
+        sampling::put_settings(&mut values, &settings);
+        let inputs = s.inputs;
+        let digital = inputs.digital();
+        let analog = inputs.analog();
+        let signals = s.signals;
+        let core = self.core;
+        let alarmed = core.alarmed(signals.alarms());
+        self.core = alarmed;
+        self.digital = digital;
+        self.analog = analog;
+        self.values = values;
+        self
+    }
+
+    // With one tick more of an armed wait, and nothing else.
+    fn ticked(mut self) -> Self
+        ensures { λ r. ⌜ r ≡ withTick self ⌝ }
+    {
+        let core = self.core;
+        let later = core.ticked();
+        self.core = later;
+        self
+    }
+
+    // Power-up, lent the parameter store.
+    pub fn power_up(self, store: &[u8]) -> After
+        ensures { λ r. ⌜ outcomeOf r ≡ poweredUp (now (store .entry)) self ⌝ }
+    {
+        if store.len() != 364 {
+            return After {
+                registers: self,
+                answer: Answer::Length,
+            };
+        }
+        After {
+            registers: Registers::powered(store),
+            answer: Answer::Done,
+        }
+    }
+
+    pub fn sample(self, s: Sample) -> After
+        ensures { λ r. ⌜ outcomeOf r ≡ sampled s self ⌝ }
+    {
+        if !self.in_range() {
+            return After {
+                registers: self,
+                answer: Answer::HandedIn,
+            };
+        }
+        if !s.in_range() {
+            return After {
+                registers: self,
+                answer: Answer::Field,
+            };
+        }
+        After {
+            registers: self.sampled(s),
+            answer: Answer::Done,
+        }
+    }
+
+    pub fn tick(self) -> After
+        ensures { λ r. ⌜ outcomeOf r ≡ ticked self ⌝ }
+    {
+        if !self.in_range() {
+            return After {
+                registers: self,
+                answer: Answer::HandedIn,
+            };
+        }
+        After {
+            registers: self.ticked(),
+            answer: Answer::Done,
+        }
+    }
+}
+
+// The laws of the events and worked examples, held to be proved: the function does nothing.
+pub fn laws()
+    ensures { λ _. ⌜ Laws × Examples ⌝ }
+{}

@@ -1,0 +1,49 @@
+// Whether registers that are handed in are in range.
+ghost use mathlib.Core.Path.{_≡_};
+ghost use Rattle.board.specs.Range.{addressesInRange, pinsInRange, registersInRange};
+use crate::Registers;
+use registers::Core;
+use registers::Download;
+
+fn addresses_in_range(core: Core, download: Download, entries: &[u16; 8]) -> bool
+    ensures { λ r. ⌜ r ≡ addressesInRange core download (now (entries .entry)) ⌝ }
+{
+    if !core.in_range() {
+        return false;
+    }
+    if !download.in_range() {
+        return false;
+    }
+    registers::entries_in_range(entries)
+}
+
+fn pins_in_range(outputs: &[u8; 4], digital: &[u8; 2], analog: &[i32; 3]) -> bool
+    ensures { λ r. ⌜ r ≡ pinsInRange (now (outputs .entry)) (now (digital .entry)) (now (analog .entry)) ⌝ }
+{
+    if !registers::bits_in_range(outputs) {
+        return false;
+    }
+    if !registers::bits_in_range(digital) {
+        return false;
+    }
+    registers::analog_in_range(analog)
+}
+
+impl Registers {
+    pub fn in_range(self) -> bool
+        ensures { λ r. ⌜ r ≡ registersInRange self ⌝ }
+    {
+        let entries = self.entries;
+        if !addresses_in_range(self.core, self.download, &entries) {
+            return false;
+        }
+        let outputs = self.outputs;
+        let digital = self.digital;
+        let analog = self.analog;
+        if !pins_in_range(&outputs, &digital, &analog) {
+            return false;
+        }
+        let values = self.values;
+        values::in_range(&values)
+    }
+}

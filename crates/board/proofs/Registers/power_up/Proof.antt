@@ -1,12 +1,17 @@
+-- `board::Registers::power_up` meets its contract. Assumes nothing.
 use borrow.Author.Needs.{needs}
+use borrow.Author.Tests.{eq-eqb, ne-eqb}
+use Rattle.board.specs.Events.{poweredUp}
 use Rattle.board.proofs.Registers.power_up.Statement.{statement}
 use Rattle.board.proofs.Registers.power_up.Tie as tie
 
 returns : tie.Need-returns
-returns c = ?
+unfolding poweredUp
+returns c = simp (ne-eqb _ _ (c .if1 .taken))
 
 returns-2 : tie.Need-returns-2
-returns-2 c = ?
+unfolding poweredUp
+returns-2 c = simp (eq-eqb _ _ (c .before .if1 .left), c .powered .ensures)
 
 pub power-up-spec : {M : Type 1} → statement M
 power-up-spec = tie.close (tie.spec returns (λ c κs. search needs) returns-2)

@@ -1,10 +1,20 @@
+-- `board::Registers::powered` meets its contract. Assumes nothing.
 use borrow.Author.Needs.{needs}
+use Rattle.board.specs.Registers.{powered}
 use Rattle.board.proofs.Registers.powered.Statement.{statement}
 use Rattle.board.proofs.Registers.powered.Tie as tie
-use Rattle.registers.proofs.Core.powered.Reads as Core-powered-reads
 
 returns : tie.Need-returns
-returns c = ?
+unfolding powered
+returns c =
+    let e = c .before .before in
+    simp (
+      c .none .ensures,
+      c .before .powered2 .ensures,
+      e .equals .ensures,
+      e .before .value-at .ensures,
+      e .before .before .before .powered .ensures,
+    )
 
 pub powered-spec : {M : Type 1} → statement M
 powered-spec =

@@ -1,17 +1,38 @@
+-- `board::Registers::sample` meets its contract. Assumes nothing.
 use borrow.Author.Needs.{needs}
+use borrow.Author.Tests.{not-true, not-false}
+use Rattle.board.specs.Events.{sampled}
 use Rattle.board.proofs.Registers.sample.Statement.{statement}
 use Rattle.board.proofs.Registers.sample.Tie as tie
-use Rattle.board.proofs.Registers.in_range.Reads as Registers-in-range-reads
-use Rattle.sampling.proofs.Sample.in_range.Reads as Sample-in-range-reads
 
 returns : tie.Need-returns
-returns c = ?
+unfolding sampled
+returns c = let x = c .before .in-range in simp (← x .ensures, not-true (x .result) (c .if1 .taken))
 
 returns-2 : tie.Need-returns-2
-returns-2 c = ?
+unfolding sampled
+returns-2 c =
+    let x = c .before .before .before .in-range in
+    let y = c .before .in-range2 in
+    simp (
+      ← x .ensures,
+      not-false (x .result) (c .before .before .if1 .left),
+      ← y .ensures,
+      not-true (y .result) (c .if2 .taken),
+    )
 
 returns-3 : tie.Need-returns-3
-returns-3 c = ?
+unfolding sampled
+returns-3 c =
+    let x = c .before .before .before .before .in-range in
+    let y = c .before .before .in-range2 in
+    simp (
+      ← x .ensures,
+      not-false (x .result) (c .before .before .before .if1 .left),
+      ← y .ensures,
+      not-false (y .result) (c .before .if2 .left),
+      c .sampled .ensures,
+    )
 
 pub sample-spec : {M : Type 1} → statement M
 sample-spec =

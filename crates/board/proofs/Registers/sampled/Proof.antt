@@ -1,9 +1,20 @@
+-- `board::Registers::sampled` meets its contract. Assumes nothing.
 use borrow.Author.Needs.{needs}
 use Rattle.board.proofs.Registers.sampled.Statement.{statement}
 use Rattle.board.proofs.Registers.sampled.Tie as tie
 
 returns : tie.Need-returns
-returns c = ?
+returns c =
+    let d = c .before .before .before .before .before in
+    let p = d .before .before in
+    simp (
+      c .alarmed .ensures,
+      c .before .alarms .ensures,
+      c .before .before .before .before .analog .ensures,
+      d .digital .ensures,
+      p .put-settings .ensures,
+      p .before .before .before .settings .ensures,
+    )
 
 pub sampled-spec : {M : Type 1} → statement M
 sampled-spec =

@@ -1,12 +1,19 @@
+-- `board::Registers::tick` meets its contract. Assumes nothing.
 use borrow.Author.Needs.{needs}
+use borrow.Author.Tests.{not-true, not-false}
+use Rattle.board.specs.Events.{ticked}
 use Rattle.board.proofs.Registers.tick.Statement.{statement}
 use Rattle.board.proofs.Registers.tick.Tie as tie
 
 returns : tie.Need-returns
-returns c = ?
+unfolding ticked
+returns c = let x = c .before .in-range in simp (← x .ensures, not-true (x .result) (c .if1 .taken))
 
 returns-2 : tie.Need-returns-2
-returns-2 c = ?
+unfolding ticked
+returns-2 c =
+    let x = c .before .before .in-range in
+    simp (← x .ensures, not-false (x .result) (c .before .if1 .left), c .ticked .ensures)
 
 pub tick-spec : {M : Type 1} → statement M
 tick-spec = tie.close (tie.spec (λ c κs. search needs) returns (λ c κs. search needs) returns-2)

@@ -1,0 +1,183 @@
+-- The laws of the events. Assumes nothing.
+use Prim.Native.Nat.{ℕ, _<_}
+use mathlib.Core.Path.{_≡_, refl, ap, _∙_}
+use mathlib.Core.Bool.{Bool, true, false, _&&_}
+use mathlib.Core.List.{List}
+use lib.Dec.{eqb, lit<}
+use lib.IntN.{pos}
+use lib.ListN.{length, replicate}
+use Rattle.words.specs.Word.{pick}
+use Rattle.words.specs.declared.Word.{Word}
+use Rattle.order.specs.Order.{sameW}
+use Rattle.sheet.specs.Rows.{rows, parameters}
+use Rattle.sheet.proofs.Below.{is-true, is-T}
+use Rattle.values.specs.Values.{valueAt, valuesInRange, poweredAt, poweredValues}
+use Rattle.values.proofs.Rules as values
+use Rattle.registers.specs.Range.{coreInRange, downloadInRange, entriesInRange, bitsInRange, analogInRange}
+use Rattle.registers.specs.Registers as reg
+use Rattle.registers.specs.Laws as reg-laws
+use Rattle.registers.proofs.Kept as registers
+use Rattle.sampling.specs.Sample.{settings, settled, sampleInRange, digitalOf, analogOf, alarmsOf}
+use Rattle.sampling.specs.declared.Sample.{Sample}
+use Rattle.sampling.proofs.Rules as sampling
+use Rattle.board.specs.Registers.{powered, withSample, withTick}
+use Rattle.board.specs.Range.{addressesInRange, pinsInRange, registersInRange}
+use Rattle.board.specs.Events.{Outcome, outcome, poweredUp, sampled, ticked}
+use Rattle.board.specs.Laws.{Laws}
+use Rattle.board.specs.declared.Registers.{Registers}
+
+-- ---- the seven tests that make up the range of registers
+pub record Parts (r : Registers) : Type 0 where
+  pub core : coreInRange (r .core) ≡ true
+  pub download : downloadInRange (r .download) ≡ true
+  pub entries : entriesInRange (r .entries) ≡ true
+  pub outputs : bitsInRange (r .outputs) ≡ true
+  pub digital : bitsInRange (r .digital) ≡ true
+  pub analog : analogInRange (r .analog) ≡ true
+  pub values : valuesInRange parameters (r .values) ≡ true
+
+both : (a b : Bool) → a && b ≡ true → (a ≡ true) × (b ≡ true)
+both true b e = (refl, e)
+both false b e = absurd (is-T false e)
+
+module _ (r : Registers) where
+  pub parts : registersInRange r ≡ true → Parts r
+  unfolding registersInRange
+  parts h =
+      let a = addressesInRange (r .core) (r .download) (r .entries) in
+      let p = pinsInRange (r .outputs) (r .digital) (r .analog) in
+      let v = valuesInRange parameters (r .values) in
+      let x = both (a && p) v h in
+      let y = both a p (x .0) in
+      let c = both (coreInRange (r .core) && downloadInRange (r .download)) (entriesInRange (r .entries)) (y .0) in
+      let d = both (coreInRange (r .core)) (downloadInRange (r .download)) (c .0) in
+      let o = both (bitsInRange (r .outputs) && bitsInRange (r .digital)) (analogInRange (r .analog)) (y .1) in
+      let i = both (bitsInRange (r .outputs)) (bitsInRange (r .digital)) (o .0) in
+      record {
+        core = d .0;
+        download = d .1;
+        entries = c .1;
+        outputs = i .0;
+        digital = i .1;
+        analog = o .1;
+        values = x .1;
+      }
+
+  pub whole : Parts r → registersInRange r ≡ true
+  unfolding registersInRange
+  whole p = simp (p .core, p .download, p .entries, p .outputs, p .digital, p .analog, p .values)
+
+-- ---- the events keep it
+pub powered-in-range : (s : List ℕ) → registersInRange (powered s) ≡ true
+unfolding powered
+powered-in-range s =
+    let l : reg-laws.Laws = registers.laws in
+    whole (powered s)
+    (record {
+      core = is-true (coreInRange (powered s .core)) (l .powered-core (powered s .core .running));
+      download = refl;
+      entries = is-true (entriesInRange (replicate 8 0)) (l .powered-entries);
+      outputs = is-true (bitsInRange (replicate 4 0)) (l .powered-outputs);
+      digital = is-true (bitsInRange (replicate 2 0)) (l .powered-digital);
+      analog = is-true (analogInRange (replicate 3 (pos 0))) (l .powered-analog);
+      values = values.powered-in-range s;
+    })
+
+module _ (r : Registers) (p : Parts r) where
+  with-tick : Parts (withTick r)
+  with-tick =
+      let l : reg-laws.Laws = registers.laws in
+      record {
+        core = l .wait-in-range (reg.ticked (r .core .wait)) (r .core) ∙ p .core;
+        download = p .download;
+        entries = p .entries;
+        outputs = p .outputs;
+        digital = p .digital;
+        analog = p .analog;
+        values = p .values;
+      }
+
+  with-sample : (s : Sample) → sampleInRange s ≡ true → length (r .values) ≡ 103 → Parts (withSample s r)
+  with-sample s e n =
+      let l : reg-laws.Laws = registers.laws in
+      record {
+        core = is-true (coreInRange (withSample s r .core)) (l .alarmed-in-range (alarmsOf (s .signals)) (r .core) (is-T (coreInRange (r .core)) (p .core)));
+        download = p .download;
+        entries = p .entries;
+        outputs = p .outputs;
+        digital = sampling.digital-in-range (s .inputs);
+        analog = sampling.analog-in-range s e;
+        values = sampling.values-in-range s (r .values) e n (p .values);
+      }
+
+-- what holds of both outcomes holds of the one that is picked
+picked : (P : Outcome → Type 0) (b : Bool) (x y : Outcome) → (b ≡ true → P x) → P y → P (pick b x y)
+picked P true x y f g = f refl
+picked P false x y f g = g
+
+Kept : Outcome → Type 0
+Kept o = registersInRange (o .registers) ≡ true
+
+module _ (r : Registers) (h : registersInRange r ≡ true) where
+  pub power-up-in-range : (s : List ℕ) → registersInRange (poweredUp s r .registers) ≡ true
+  unfolding poweredUp Kept
+  power-up-in-range s = picked Kept (eqb (length s) 364) (outcome 100 (powered s)) (outcome 20 r) (λ _. powered-in-range s) h
+
+  pub tick-in-range : registersInRange (ticked r .registers) ≡ true
+  unfolding ticked Kept
+  tick-in-range =
+      picked Kept (registersInRange r) (outcome 100 (withTick r)) (outcome 23 r)
+      (λ _. whole (withTick r) (with-tick r (parts r h))) h
+
+  pub sample-in-range : (s : Sample) → length (r .values) ≡ 103 → registersInRange (sampled s r .registers) ≡ true
+  unfolding sampled Kept
+  sample-in-range s n =
+      let inner = pick (sampleInRange s) (outcome 100 (withSample s r)) (outcome 21 r) in
+      picked Kept (registersInRange r) inner (outcome 23 r)
+      (λ _. picked Kept (sampleInRange s) (outcome 100 (withSample s r)) (outcome 21 r)
+      (λ e. whole (withSample s r) (with-sample r (parts r h) s e n)) h) h
+
+-- ---- a refused event changes nothing
+Refused : Registers → Outcome → Type 0
+Refused r o = (o .status ≡ 100 → ⊥) → o .registers ≡ r
+
+module _ (r : Registers) where
+  pub power-up-refused : (s : List ℕ) → (poweredUp s r .status ≡ 100 → ⊥) → poweredUp s r .registers ≡ r
+  unfolding poweredUp Refused
+  power-up-refused s =
+      picked (Refused r) (eqb (length s) 364) (outcome 100 (powered s)) (outcome 20 r) (λ _ n. absurd (n refl)) (λ _. refl)
+
+  pub tick-refused : (ticked r .status ≡ 100 → ⊥) → ticked r .registers ≡ r
+  unfolding ticked Refused
+  tick-refused =
+      picked (Refused r) (registersInRange r) (outcome 100 (withTick r)) (outcome 23 r) (λ _ n. absurd (n refl)) (λ _. refl)
+
+  pub sample-refused : (s : Sample) → (sampled s r .status ≡ 100 → ⊥) → sampled s r .registers ≡ r
+  unfolding sampled Refused
+  sample-refused s =
+      picked (Refused r) (registersInRange r) (pick (sampleInRange s) (outcome 100 (withSample s r)) (outcome 21 r)) (outcome 23 r)
+      (λ _. picked (Refused r) (sampleInRange s) (outcome 100 (withSample s r)) (outcome 21 r) (λ _ n. absurd (n refl)) (λ _. refl))
+      (λ _. refl)
+
+-- ---- values after power-up
+powered-at : (s : List ℕ) (i : ℕ) → i < 103 → valueAt (powered s .values) i ≡ poweredAt rows s i
+unfolding powered
+powered-at s i h = values.powered-at s i h
+
+powered-runs : (s : List ℕ) → powered s .core .running ≡ sameW (poweredAt rows s 46 .v) (pos 1)
+unfolding powered
+powered-runs s = ap (λ (w : Word). sameW (w .v) (pos 1)) (values.powered-at s 46 (lit< tt))
+
+pub laws : Laws
+laws =
+    record {
+      powered-in-range = powered-in-range;
+      power-up-in-range = λ s r h. power-up-in-range r h s;
+      sample-in-range = λ s r n h. sample-in-range r h s n;
+      tick-in-range = tick-in-range;
+      powered-at = powered-at;
+      powered-runs = powered-runs;
+      power-up-refused = λ s r. power-up-refused r s;
+      sample-refused = λ s r. sample-refused r s;
+      tick-refused = tick-refused;
+    }

@@ -11,13 +11,13 @@ use Rattle.words.specs.declared.Word.{Word}
 use Rattle.order.specs.Order.{sameW}
 use Rattle.sheet.specs.Rows.{rows, parameters}
 use Rattle.sheet.proofs.Below.{is-true, is-T}
-use Rattle.values.specs.Values.{valueAt, valuesInRange, poweredAt, poweredValues}
+use Rattle.values.specs.Values.{valueAt, valuesInRange, poweredAt}
 use Rattle.values.proofs.Rules as values
 use Rattle.registers.specs.Range.{coreInRange, downloadInRange, entriesInRange, bitsInRange, analogInRange}
 use Rattle.registers.specs.Registers as reg
 use Rattle.registers.specs.Laws as reg-laws
 use Rattle.registers.proofs.Kept as registers
-use Rattle.sampling.specs.Sample.{settings, settled, sampleInRange, digitalOf, analogOf, alarmsOf}
+use Rattle.sampling.specs.Sample.{sampleInRange, alarmsOf}
 use Rattle.sampling.specs.declared.Sample.{Sample}
 use Rattle.sampling.proofs.Rules as sampling
 use Rattle.board.specs.Registers.{powered, withSample, withTick}

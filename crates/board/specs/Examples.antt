@@ -10,14 +10,11 @@ use Rattle.sheet.specs.Rows.{rows}
 use Rattle.sheet.specs.Places.{placeIn}
 use Rattle.sheet.specs.Sheet.{axis}
 use Rattle.store.specs.Store.{putCell}
-use Rattle.values.specs.Values.{valueAt, setValue}
+use Rattle.values.specs.Values.{valueAt}
 use Rattle.values.specs.Examples.{defaultsOf, defaultCells, badCells}
-use Rattle.registers.specs.Registers.{withWait, withFlags, poweredCore, noDownload}
+use Rattle.registers.specs.Registers.{poweredCore, noDownload}
 use Rattle.registers.specs.declared.Wait.{Wait}
 use Rattle.registers.specs.declared.Flags.{Flags}
-use Rattle.sampling.specs.declared.Readings.{Readings}
-use Rattle.sampling.specs.declared.Inputs.{Inputs}
-use Rattle.sampling.specs.declared.Signals.{Signals}
 use Rattle.sampling.specs.declared.Sample.{Sample}
 use Rattle.board.specs.Registers.{powered}
 use Rattle.board.specs.Events.{outcome, poweredUp, sampled, ticked}

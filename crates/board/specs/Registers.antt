@@ -1,7 +1,7 @@
 -- The registers, and what power-up, a sample and a tick make of them.
 use Prim.Native.Nat.{ℕ}
 use mathlib.Core.List.{List}
-use lib.IntN.{ℤ, pos}
+use lib.IntN.{pos}
 use lib.ListN.{replicate}
 use Rattle.order.specs.Order.{sameW}
 use Rattle.sheet.specs.Rows.{rows}

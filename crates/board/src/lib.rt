@@ -6,7 +6,6 @@ ghost use mathlib.Core.Path.{_≡_};
 ghost use Rattle.board.specs.Events.{outcomeOf, poweredUp, sampled, ticked};
 ghost use Rattle.board.specs.Examples.{Examples};
 ghost use Rattle.board.specs.Laws.{Laws};
-ghost use Rattle.board.specs.Range.{registersInRange};
 ghost use Rattle.board.specs.Registers.{powered, withSample, withTick};
 use registers::Core;
 use registers::Download;

@@ -2,7 +2,7 @@
 -- comparison, flags ETO EAL EDV EPO, program address 0 to 1,024, running or not, armed wait, download mode and write address,
 -- motion order (stopped, velocity, position) .. A dropped wait and freed stack entries become 0; what no rule names stays."
 use Prim.Native.Nat.{ℕ, _-_}
-use mathlib.Core.Bool.{Bool, true, false, _&&_}
+use mathlib.Core.Bool.{Bool, false, _&&_}
 use lib.Dec.{ltb}
 use lib.IntN.{pos}
 use Rattle.words.specs.Word.{pick, word}

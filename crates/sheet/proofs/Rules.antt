@@ -12,7 +12,7 @@ use mir.Syntax.{w32}
 use mir.Val.{SFits}
 use Rattle.words.specs.Word.{pick}
 use Rattle.words.specs.declared.Word.{Word}
-use Rattle.sheet.specs.Laws.{Laws, Rising, oneOf, parameter}
+use Rattle.sheet.specs.Laws.{Laws, Rising, oneOf}
 use Rattle.sheet.specs.Row.{allowed, taken}
 use Rattle.sheet.specs.Rows.{parameters, rows, rowAt}
 use Rattle.sheet.specs.Sheet.{axis, globals, readOnly, rweRows, rwRows, rRows, userRow}

@@ -1,11 +1,11 @@
 -- A row with a mask allows just the values of its set. Assumes nothing.
-use Prim.Native.Nat.{ℕ, zero, suc, _+_, _≤_, _<_}
+use Prim.Native.Nat.{ℕ, _+_, _<_}
 use native.Mathlib.Omega.{arith}
-use mathlib.Core.Path.{_≡_, refl, sym, _∙_}
-use mathlib.Core.Bool.{Bool, true, false, _||_}
-use mathlib.Core.List.{List, [], _∷_}
-use borrow.Author.Tests.{leb-true, leb-false, lt-leb}
-use lib.Dec.{T, eqb, leb, leb·zero}
+use mathlib.Core.Path.{_≡_, refl}
+use mathlib.Core.Bool.{Bool, true, false}
+use mathlib.Core.List.{List}
+use borrow.Author.Tests.{leb-true, leb-false}
+use lib.Dec.{T, leb, leb·zero}
 use lib.IntN.{ℤ, pos, negsuc}
 use Rattle.words.specs.Word.{word}
 use Rattle.sheet.specs.Laws.{oneOf}

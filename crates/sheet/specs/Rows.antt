@@ -1,7 +1,6 @@
 -- The rows of the working values, and of the cells: "Cells in order: the 31 RWE axis parameters by rising number; globals
 -- 66, 73, 76, 77; user variables 0 to 55."
 use Prim.Native.Nat.{ℕ}
-use mathlib.Core.Bool.{Bool, true, false}
 use mathlib.Core.List.{List, [], _∷_, _++_}
 use lib.ListN.{length, getD, take, replicate}
 use Rattle.words.specs.Word.{pick}

@@ -1,5 +1,5 @@
 -- The laws of the working values. Assumes nothing.
-use Prim.Native.Nat.{ℕ, _≤_, _<_}
+use Prim.Native.Nat.{ℕ, _<_}
 use native.Mathlib.Nat.{zero-add}
 use native.Mathlib.Omega.{arith}
 use mathlib.Core.Path.{_≡_, refl, ap, _∙_}
@@ -13,7 +13,6 @@ use lib.Seq.{getD-set-same, getD-set-other}
 use Rattle.words.specs.Word.{pick, word}
 use Rattle.sheet.specs.Row.{allowed, taken, stored}
 use Rattle.sheet.specs.Rows.{rows, parameters, rowAt, cellOf}
-use Rattle.sheet.specs.Places.{allBelow}
 use Rattle.sheet.specs.Sheet.{axis, globals, rweRows, rwRows, rRows}
 use Rattle.sheet.proofs.Below.{is-true, is-T, below, below-of}
 use Rattle.sheet.proofs.Rules.{takes, defaults}

@@ -5,9 +5,9 @@ use mathlib.Core.List.{List, [], _∷_, _++_, map}
 use lib.IntN.{ℤ, pos, negsuc}
 use lib.ListN.{length, replicate}
 use Rattle.words.specs.Word.{word}
-use Rattle.sheet.specs.Rows.{rows, cells, cellOf}
+use Rattle.sheet.specs.Rows.{rows, cells}
 use Rattle.sheet.specs.Places.{placeIn}
-use Rattle.sheet.specs.Sheet.{axis, globals}
+use Rattle.sheet.specs.Sheet.{axis}
 use Rattle.sheet.specs.declared.Row.{Row}
 use Rattle.store.specs.Store.{cellBytes, putCell}
 use Rattle.values.specs.Values.{valueAt, poweredValues}

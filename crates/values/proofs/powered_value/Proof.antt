@@ -1,5 +1,4 @@
 -- `values::powered_value` meets its contract. Assumes nothing.
-use mathlib.Core.Path.{_≡_}
 use borrow.Author.Needs.{needs}
 use Rattle.values.specs.Values.{poweredAt}
 use Rattle.values.proofs.powered_value.Statement.{statement}

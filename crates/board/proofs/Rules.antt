@@ -8,9 +8,9 @@ use lib.IntN.{pos}
 use lib.ListN.{length, replicate}
 use Rattle.words.specs.Word.{pick}
 use Rattle.words.specs.declared.Word.{Word}
+use Rattle.words.proofs.Bools.{is-true, is-T, each}
 use Rattle.order.specs.Order.{sameW}
 use Rattle.sheet.specs.Rows.{rows, parameters}
-use Rattle.sheet.proofs.Below.{is-true, is-T}
 use Rattle.values.specs.Values.{valueAt, valuesInRange, poweredAt}
 use Rattle.values.proofs.Rules as values
 use Rattle.registers.specs.Range.{coreInRange, downloadInRange, entriesInRange, bitsInRange, analogInRange}
@@ -36,10 +36,6 @@ pub record Parts (r : Registers) : Type 0 where
   pub analog : analogInRange (r .analog) ≡ true
   pub values : valuesInRange parameters (r .values) ≡ true
 
-both : (a b : Bool) → a && b ≡ true → (a ≡ true) × (b ≡ true)
-both true b e = (refl, e)
-both false b e = absurd (is-T false e)
-
 module _ (r : Registers) where
   pub parts : registersInRange r ≡ true → Parts r
   unfolding registersInRange
@@ -47,12 +43,12 @@ module _ (r : Registers) where
       let a = addressesInRange (r .core) (r .download) (r .entries) in
       let p = pinsInRange (r .outputs) (r .digital) (r .analog) in
       let v = valuesInRange parameters (r .values) in
-      let x = both (a && p) v h in
-      let y = both a p (x .0) in
-      let c = both (coreInRange (r .core) && downloadInRange (r .download)) (entriesInRange (r .entries)) (y .0) in
-      let d = both (coreInRange (r .core)) (downloadInRange (r .download)) (c .0) in
-      let o = both (bitsInRange (r .outputs) && bitsInRange (r .digital)) (analogInRange (r .analog)) (y .1) in
-      let i = both (bitsInRange (r .outputs)) (bitsInRange (r .digital)) (o .0) in
+      let x = each (a && p) v h in
+      let y = each a p (x .0) in
+      let c = each (coreInRange (r .core) && downloadInRange (r .download)) (entriesInRange (r .entries)) (y .0) in
+      let d = each (coreInRange (r .core)) (downloadInRange (r .download)) (c .0) in
+      let o = each (bitsInRange (r .outputs) && bitsInRange (r .digital)) (analogInRange (r .analog)) (y .1) in
+      let i = each (bitsInRange (r .outputs)) (bitsInRange (r .digital)) (o .0) in
       record {
         core = d .0;
         download = d .1;

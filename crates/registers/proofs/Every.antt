@@ -1,37 +1,15 @@
--- Tests that hold of all parts, or of every element of a list. Assumes nothing.
+-- Tests that hold of every element of a list. Assumes nothing.
 use Prim.Native.Nat.{ℕ, zero, suc, _+_, _≤_, _<_}
 use mathlib.Core.Path.{_≡_, sym, _∙_}
-use mathlib.Core.Bool.{Bool, true, false, _&&_}
+use mathlib.Core.Bool.{Bool, true, false}
 use mathlib.Core.List.{List, [], _∷_}
 use native.Mathlib.Numerals.{add-one}
 use native.Mathlib.Omega.{arith}
 use lib.Dec.{T}
 use lib.ListN.{length, getD, set, drop, drop-of-length-le}
 use lib.Seq.{drop-cons}
+use Rattle.words.proofs.Bools.{both, and-left, and-right}
 use Rattle.registers.specs.Range.{every}
-
-pub both : (a b : Bool) → T a → T b → T (a && b)
-both true b s t = t
-both false b s t = s
-
-pub and-left : (a b : Bool) → T (a && b) → T a
-and-left true b t = tt
-and-left false b t = t
-
-pub and-right : (a b : Bool) → T (a && b) → T b
-and-right true b t = t
-and-right false b t = absurd t
-
--- ---- a test of three parts, by the parts
-module _ (a b c : Bool) where
-  pub all-three : {r : Bool} → a ≡ true → b ≡ true → r ≡ c → r ≡ a && b && c
-  all-three e f g = simp (e, f, g)
-
-  pub not-first : a ≡ false → false ≡ a && b && c
-  not-first e = simp e
-
-  pub not-second : a ≡ true → b ≡ false → false ≡ a && b && c
-  not-second e f = simp (e, f)
 
 -- ---- a test of every element
 module _ {A : Type 0} (f : A → Bool) where

@@ -13,7 +13,7 @@ use Rattle.registers.specs.declared.Flags.{Flags}
 use Rattle.registers.specs.declared.Alarms.{Alarms}
 use Rattle.registers.specs.declared.Wait.{Wait}
 use Rattle.registers.specs.declared.Core.{Core}
-use Rattle.registers.proofs.Every.{both}
+use Rattle.words.proofs.Bools.{both}
 
 -- ---- ticks
 module _ (w : Wait) where

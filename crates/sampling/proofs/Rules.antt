@@ -7,12 +7,13 @@ use mathlib.Core.List.{List, [], _∷_}
 use lib.IntN.{ℤ, pos}
 use lib.ListN.{length, getD}
 use Rattle.words.specs.Word.{pick}
+use Rattle.words.proofs.Bools.{is-true, is-T, each}
 use Rattle.sheet.specs.Rows.{parameters}
-use Rattle.sheet.proofs.Below.{is-true, is-T, below}
+use Rattle.sheet.proofs.Below.{below}
 use Rattle.values.specs.Values.{valuesInRange}
 use Rattle.values.proofs.Rules.{set-length, set-in-range}
 use Rattle.registers.specs.Range.{bitsInRange, eachUpTo, analogInRange}
-use Rattle.sampling.specs.Sample.{settings, placeOf, settingsInRange, readingsInRange, signalsInRange, settled, sampleInRange, isOn, digitalOf, analogOf}
+use Rattle.sampling.specs.Sample.{settings, placeOf, settingsInRange, readingsInRange, inputsInRange, signalsInRange, settled, sampleInRange, isOn, digitalOf, analogOf}
 use Rattle.sampling.specs.Laws.{Laws}
 use Rattle.sampling.specs.declared.Inputs.{Inputs}
 use Rattle.sampling.specs.declared.Sample.{Sample}
@@ -33,18 +34,14 @@ module _ (zs : List ℤ) where
       (is-true (good zs n) (below (good zs) 8 (is-T (settingsInRange zs) g) n (omega arith)))
 
 -- ---- the parts of a sample
-three : (a b c d : Bool) → a && (b && c) && d ≡ true → (a ≡ true) × (c ≡ true)
-three true true true d e = (refl, refl)
-three true true false d e = absurd (is-T false e)
-three true false c d e = absurd (is-T false e)
-three false b c d e = absurd (is-T false e)
-
 module _ (s : Sample) where
   parts : sampleInRange s ≡ true → (readingsInRange (s .readings) ≡ true) × (analogInRange (analogOf (s .inputs)) ≡ true)
   unfolding sampleInRange
   parts e =
-      three (readingsInRange (s .readings)) (eachUpTo (pos 1) (s .inputs .«digital_0» .v ∷ s .inputs .«digital_1» .v ∷ []))
-      (analogInRange (analogOf (s .inputs))) (signalsInRange (s .signals)) e
+      let digital = eachUpTo (pos 1) (s .inputs .«digital_0» .v ∷ s .inputs .«digital_1» .v ∷ []) in
+      let x = each (readingsInRange (s .readings) && inputsInRange (s .inputs)) (signalsInRange (s .signals)) e in
+      let y = each (readingsInRange (s .readings)) (inputsInRange (s .inputs)) (x .0) in
+      (y .0, each digital (analogInRange (analogOf (s .inputs))) (y .1) .1)
 
   pub values-in-range : (vs : List ℤ) → sampleInRange s ≡ true → length vs ≡ 103 → valuesInRange parameters vs ≡ true → valuesInRange parameters (settled (settings (s .readings)) 8 vs) ≡ true
   values-in-range vs e l v = stays (settings (s .readings)) 8 vs (omega arith) (parts e .0) l v

@@ -12,6 +12,7 @@ use mir.Syntax.{w32}
 use mir.Val.{SFits}
 use Rattle.words.specs.Word.{pick}
 use Rattle.words.specs.declared.Word.{Word}
+use Rattle.words.proofs.Bools.{and-left, and-right}
 use Rattle.sheet.specs.Laws.{Laws, Rising, oneOf}
 use Rattle.sheet.specs.Row.{allowed, taken}
 use Rattle.sheet.specs.Rows.{parameters, rows, rowAt}
@@ -19,7 +20,7 @@ use Rattle.sheet.specs.Sheet.{axis, globals, readOnly, rweRows, rwRows, 
 use Rattle.sheet.specs.declared.Row.{Row}
 use Rattle.sheet.specs.declared.Access.the-variants.{Rwe}
 use Rattle.sheet.specs.Places.{allBelow}
-use Rattle.sheet.proofs.Below.{below, and-left, and-right}
+use Rattle.sheet.proofs.Below.{below}
 use Rattle.sheet.proofs.Counts.{own, rise}
 use Rattle.sheet.proofs.Sets.{set-row}
 

@@ -2,7 +2,7 @@
 use mathlib.Core.Path.{sym, _∙_}
 use borrow.Author.Needs.{needs}
 use borrow.Author.Tests.{not-true, not-false}
-use Rattle.registers.proofs.Every.{all-three, not-first, not-second}
+use Rattle.words.proofs.Bools.{all-three, not-first, not-second}
 use Rattle.sheet.specs.Rows.{parameters}
 use Rattle.values.specs.Values.{valuesInRange}
 use Rattle.board.specs.Range.{addressesInRange, pinsInRange, registersInRange}

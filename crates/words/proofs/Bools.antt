@@ -1,0 +1,38 @@
+-- Tests put together by `&&`, as types and as equations. Assumes nothing.
+use mathlib.Core.Path.{_≡_, refl, sym, subst}
+use mathlib.Core.Bool.{Bool, true, false, _&&_}
+use lib.Dec.{T}
+
+pub is-true : (b : Bool) → T b → b ≡ true
+is-true true t = refl
+is-true false t = absurd t
+
+pub is-T : (b : Bool) → b ≡ true → T b
+is-T b e = subst T (sym e) tt
+
+pub both : (a b : Bool) → T a → T b → T (a && b)
+both true b s t = t
+both false b s t = s
+
+pub and-left : (a b : Bool) → T (a && b) → T a
+and-left true b t = tt
+and-left false b t = t
+
+pub and-right : (a b : Bool) → T (a && b) → T b
+and-right true b t = t
+and-right false b t = absurd t
+
+pub each : (a b : Bool) → a && b ≡ true → (a ≡ true) × (b ≡ true)
+each true b e = (refl, e)
+each false b e = absurd (is-T false e)
+
+-- ---- a test of three parts, by the parts
+module _ (a b c : Bool) where
+  pub all-three : {r : Bool} → a ≡ true → b ≡ true → r ≡ c → r ≡ a && b && c
+  all-three e f g = simp (e, f, g)
+
+  pub not-first : a ≡ false → false ≡ a && b && c
+  not-first e = simp e
+
+  pub not-second : a ≡ true → b ≡ false → false ≡ a && b && c
+  not-second e f = simp (e, f)

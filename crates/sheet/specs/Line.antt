@@ -3,6 +3,7 @@ use Prim.Native.Nat.{ℕ, _+_}
 use mathlib.Core.List.{List, [], _∷_}
 use lib.Dec.{eqb}
 use lib.IntN.{pos}
+use lib.ListN.{getD}
 use Rattle.words.specs.Word.{word, pick}
 use Rattle.sheet.specs.Row.{stored}
 use Rattle.sheet.specs.Rows.{parameters}
@@ -54,3 +55,7 @@ lines = linesFrom 0 parameters
 
 abbrev pub noLine : Line
 noLine = record { 0 = 0; 1 = 0; 2 = pos 0; 3 = pos 0; 4 = pos 0; 5 = 0; 6 = 0 }
+
+-- the line of a place; past the last, zeros
+abbrev pub lineAt : ℕ → Line
+lineAt i = getD lines i noLine

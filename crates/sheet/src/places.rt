@@ -1,56 +1,62 @@
 // Where a number stands among the working values.
 //
-// A parameter is looked up at each command that names it, so its place is read from a table and the
-// rows are not searched.
+// A parameter is looked up at each command that names it, so the rows are not searched: a `match`
+// compiles to one reading of a table.
 ghost use mathlib.Core.Path.{_≡_};
 ghost use mathlib.Core.List.{_++_};
 ghost use Rattle.sheet.specs.Places.{placeIn};
 ghost use Rattle.sheet.specs.Sheet.{axis, globals, readOnly};
-use crate::wide;
-
-// The place of each number, eight numbers a line; 43 where the sheet has none.
-const PLACES: [[u8; 8]; 32] = [
-    [43, 43, 43, 43, 43, 43, 43, 43],
-    [43, 43, 0, 1, 43, 43, 2, 3],
-    [43, 43, 43, 43, 43, 43, 43, 43],
-    [43, 43, 43, 43, 43, 43, 43, 43],
-    [43, 43, 43, 43, 43, 43, 43, 43],
-    [43, 43, 43, 4, 5, 43, 43, 6],
-    [43, 43, 7, 8, 9, 10, 11, 12],
-    [13, 43, 43, 43, 43, 43, 43, 43],
-    [43, 43, 43, 43, 43, 43, 14, 15],
-    [16, 17, 18, 43, 43, 43, 43, 43],
-    [43, 43, 43, 43, 43, 43, 43, 43],
-    [43, 43, 19, 20, 21, 22, 43, 43],
-    [43, 43, 43, 43, 23, 24, 25, 43],
-    [26, 27, 28, 29, 30, 43, 31, 43],
-    [43, 43, 43, 43, 43, 43, 43, 43],
-    [43, 43, 43, 43, 43, 43, 43, 43],
-    [43, 43, 43, 43, 43, 43, 43, 43],
-    [43, 43, 43, 43, 32, 33, 34, 43],
-    [43, 43, 43, 43, 43, 43, 43, 43],
-    [43, 43, 43, 43, 43, 43, 43, 43],
-    [43, 43, 43, 43, 43, 43, 43, 43],
-    [43, 43, 43, 43, 43, 43, 43, 43],
-    [43, 43, 43, 43, 43, 43, 43, 43],
-    [43, 43, 43, 43, 43, 43, 43, 43],
-    [43, 43, 43, 43, 43, 43, 43, 43],
-    [43, 43, 43, 43, 43, 43, 43, 43],
-    [43, 35, 36, 37, 38, 39, 43, 43],
-    [43, 43, 43, 43, 40, 41, 43, 43],
-    [43, 43, 43, 43, 43, 43, 43, 43],
-    [43, 43, 43, 43, 43, 43, 43, 43],
-    [42, 43, 43, 43, 43, 43, 43, 43],
-    [43, 43, 43, 43, 43, 43, 43, 43],
-];
 
 // The place of an axis parameter; 43 where the sheet has none of that number.
 pub fn axis_place(number: u8) -> usize
     ensures { λ r. ⌜ r ≡ placeIn axis number ⌝ }
 {
-    let high = wide(number / 8);
-    let low = wide(number % 8);
-    wide(PLACES[high][low])
+    match number {
+        10 => 0,
+        11 => 1,
+        14 => 2,
+        15 => 3,
+        43 => 4,
+        44 => 5,
+        47 => 6,
+        50 => 7,
+        51 => 8,
+        52 => 9,
+        53 => 10,
+        54 => 11,
+        55 => 12,
+        56 => 13,
+        70 => 14,
+        71 => 15,
+        72 => 16,
+        73 => 17,
+        74 => 18,
+        90 => 19,
+        91 => 20,
+        92 => 21,
+        93 => 22,
+        100 => 23,
+        101 => 24,
+        102 => 25,
+        104 => 26,
+        105 => 27,
+        106 => 28,
+        107 => 29,
+        108 => 30,
+        110 => 31,
+        140 => 32,
+        141 => 33,
+        142 => 34,
+        209 => 35,
+        210 => 36,
+        211 => 37,
+        212 => 38,
+        213 => 39,
+        220 => 40,
+        221 => 41,
+        240 => 42,
+        _ => 43,
+    }
 }
 
 // The place of a global of bank 0 among the globals, the read-only ones after the others; 6 where

@@ -1,9 +1,10 @@
 -- `sheet::global_place` meets its contract. Assumes nothing.
 use mathlib.Core.Path.{ap, sym}
-use mathlib.Core.List.{_++_}
-use borrow.Author.Tests.{ne-eqb}
+use mathlib.Core.List.{_++_, map}
 use Rattle.sheet.specs.Places.{placeIn}
 use Rattle.sheet.specs.Sheet.{globals, readOnly}
+use Rattle.sheet.specs.declared.Row.{Row}
+use Rattle.sheet.proofs.Keys.{none-of, no-place}
 use Rattle.sheet.proofs.places.global_place.Statement.{statement}
 use Rattle.sheet.proofs.places.global_place.Tie as tie
 
@@ -34,15 +35,9 @@ returns-6 c = ap (placeIn (globals ++ readOnly)) (sym (c .match .keys6))
 returns-7 : tie.Need-returns-7
 unfolding globals readOnly
 returns-7 c =
-    let n = c .match .rest in
-    simp (
-      ne-eqb _ _ (n .0 .0 .0 .0 .0 .1),
-      ne-eqb _ _ (n .0 .0 .0 .0 .1),
-      ne-eqb _ _ (n .0 .0 .0 .1),
-      ne-eqb _ _ (n .0 .0 .1),
-      ne-eqb _ _ (n .0 .1),
-      ne-eqb _ _ (n .1),
-    )
+    let n = c .before .args .number in
+    let t = globals ++ readOnly in
+    sym (no-place t n (none-of n (map (λ (x : Row). x .number) t) (c .match .rest)))
 
 pub global-place-spec : {M : Type 1} → statement M
 global-place-spec =

@@ -1,13 +1,14 @@
 -- The events on concrete registers, computed. Assumes nothing.
 use mathlib.Core.Path.{refl}
 use Rattle.words.specs.Bytes.{wordOf}
-use Rattle.sheet.specs.Row.{allowed, taken}
+use Rattle.rows.specs.Row.{allowed, taken}
 use Rattle.sheet.specs.Rows.{rows, parameters}
 use Rattle.sheet.specs.Sheet.{axis, globals, rweRows, rwRows, rRows}
 use Rattle.store.specs.Store.{written, cellAt, putCell}
 use Rattle.values.specs.Values.{valuesInRange, poweredAt, poweredValues}
 use Rattle.values.specs.Examples.{defaultCells}
-use Rattle.registers.specs.Range.{coreInRange, entriesInRange, bitsInRange, eachUpTo}
+use Rattle.ranges.specs.Range.{entriesInRange, bitsInRange, eachUpTo}
+use Rattle.registers.specs.Range.{coreInRange}
 use Rattle.registers.specs.Registers as reg
 use Rattle.sampling.specs.Sample.{settingsInRange, settled, sampleInRange}
 use Rattle.board.specs.Registers.{powered}

@@ -13,7 +13,8 @@ use Rattle.order.specs.Order.{sameW}
 use Rattle.sheet.specs.Rows.{rows, parameters}
 use Rattle.values.specs.Values.{valueAt, valuesInRange, poweredAt}
 use Rattle.values.proofs.Rules as values
-use Rattle.registers.specs.Range.{coreInRange, downloadInRange, entriesInRange, bitsInRange, analogInRange}
+use Rattle.ranges.specs.Range.{entriesInRange, bitsInRange, analogInRange}
+use Rattle.registers.specs.Range.{coreInRange, downloadInRange}
 use Rattle.registers.specs.Registers as reg
 use Rattle.registers.specs.Laws as reg-laws
 use Rattle.registers.proofs.Kept as registers

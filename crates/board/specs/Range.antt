@@ -6,7 +6,8 @@ use mathlib.Core.List.{List}
 use lib.IntN.{ℤ}
 use Rattle.sheet.specs.Rows.{parameters}
 use Rattle.values.specs.Values.{valuesInRange}
-use Rattle.registers.specs.Range.{coreInRange, downloadInRange, entriesInRange, bitsInRange, analogInRange}
+use Rattle.ranges.specs.Range.{entriesInRange, bitsInRange, analogInRange}
+use Rattle.registers.specs.Range.{coreInRange, downloadInRange}
 use Rattle.registers.specs.declared.Core.{Core}
 use Rattle.registers.specs.declared.Download.{Download}
 use Rattle.board.specs.declared.Registers.{Registers}

@@ -14,19 +14,19 @@ fn addresses_in_range(core: Core, download: Download, entries: &[u16; 8]) -> boo
     if !download.in_range() {
         return false;
     }
-    registers::entries_in_range(entries)
+    ranges::entries_in_range(entries)
 }
 
 fn pins_in_range(outputs: &[u8; 4], digital: &[u8; 2], analog: &[i32; 3]) -> bool
     ensures { λ r. ⌜ r ≡ pinsInRange (now (outputs .entry)) (now (digital .entry)) (now (analog .entry)) ⌝ }
 {
-    if !registers::bits_in_range(outputs) {
+    if !ranges::bits_in_range(outputs) {
         return false;
     }
-    if !registers::bits_in_range(digital) {
+    if !ranges::bits_in_range(digital) {
         return false;
     }
-    registers::analog_in_range(analog)
+    ranges::analog_in_range(analog)
 }
 
 impl Registers {

@@ -7,7 +7,8 @@ use borrow.Author.Tests.{lt-ltb, le-ltb}
 use lib.Dec.{T, ltb, leb}
 use Rattle.words.specs.Word.{pick}
 use Rattle.registers.specs.Registers.{withFlags, raisedFlag, raised, counted, ticked, poweredCore}
-use Rattle.registers.specs.Range.{addressInRange, bitInRange, flagsInRange, coreInRange, entriesInRange, bitsInRange, eachUpTo}
+use Rattle.ranges.specs.Range.{addressInRange, bitInRange, entriesInRange, bitsInRange, eachUpTo}
+use Rattle.registers.specs.Range.{flagsInRange, coreInRange}
 use Rattle.registers.specs.Laws.{Laws}
 use Rattle.registers.specs.declared.Flags.{Flags}
 use Rattle.registers.specs.declared.Alarms.{Alarms}

@@ -6,7 +6,8 @@ use lib.Dec.{T}
 use lib.IntN.{pos}
 use lib.ListN.{replicate}
 use Rattle.registers.specs.Registers.{withWait, withFlags, raised, counted, ticked, poweredCore, noDownload}
-use Rattle.registers.specs.Range.{flagsInRange, coreInRange, downloadInRange, entriesInRange, bitsInRange, analogInRange}
+use Rattle.ranges.specs.Range.{entriesInRange, bitsInRange, analogInRange}
+use Rattle.registers.specs.Range.{flagsInRange, coreInRange, downloadInRange}
 use Rattle.registers.specs.declared.Flags.{Flags}
 use Rattle.registers.specs.declared.Alarms.{Alarms}
 use Rattle.registers.specs.declared.Wait.{Wait}

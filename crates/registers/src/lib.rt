@@ -15,13 +15,6 @@ ghost use Rattle.registers.specs.Registers.{
   poweredCore,
   noDownload,
 };
-
-mod lent;
-
-pub use lent::analog_in_range;
-pub use lent::bits_in_range;
-pub use lent::each_up_to;
-pub use lent::entries_in_range;
 use order::Compared;
 use words::Word;
 
@@ -91,7 +84,7 @@ impl Flags {
         ensures { λ r. ⌜ r ≡ flagsInRange self ⌝ }
     {
         let bits = [self.eto, self.eal, self.edv, self.epo];
-        bits_in_range(&bits)
+        ranges::bits_in_range(&bits)
     }
 
     // An alarm that is on sets its flag, one that is off clears nothing.

@@ -12,7 +12,7 @@ use Rattle.sheet.specs.Rows.{parameters}
 use Rattle.sheet.proofs.Below.{below}
 use Rattle.values.specs.Values.{valuesInRange}
 use Rattle.values.proofs.Rules.{set-length, set-in-range}
-use Rattle.registers.specs.Range.{bitsInRange, eachUpTo, analogInRange}
+use Rattle.ranges.specs.Range.{bitsInRange, eachUpTo, analogInRange}
 use Rattle.sampling.specs.Sample.{settings, placeOf, settingsInRange, readingsInRange, inputsInRange, signalsInRange, settled, sampleInRange, isOn, digitalOf, analogOf}
 use Rattle.sampling.specs.Laws.{Laws}
 use Rattle.sampling.specs.declared.Inputs.{Inputs}

@@ -6,10 +6,10 @@ use mathlib.Core.Bool.{Bool, true, false}
 use mathlib.Core.List.{List}
 use lib.IntN.{ℤ, pos}
 use lib.ListN.{getD}
-use Rattle.sheet.specs.Row.{allowed}
+use Rattle.rows.specs.Row.{allowed}
 use Rattle.sheet.specs.Rows.{rows, rowAt}
 use Rattle.sheet.specs.Places.{allBelow}
-use Rattle.sheet.specs.declared.Row.{Row}
+use Rattle.rows.specs.declared.Row.{Row}
 use Rattle.sheet.proofs.Below.{below-not}
 use Rattle.values.specs.Values.{setValue}
 use Rattle.sampling.specs.Sample.{placeOf, settingsInRange, settled}

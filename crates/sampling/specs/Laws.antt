@@ -7,7 +7,7 @@ use lib.IntN.{ℤ}
 use lib.ListN.{length}
 use Rattle.sheet.specs.Rows.{parameters}
 use Rattle.values.specs.Values.{valuesInRange}
-use Rattle.registers.specs.Range.{bitsInRange, analogInRange}
+use Rattle.ranges.specs.Range.{bitsInRange, analogInRange}
 use Rattle.sampling.specs.Sample.{settings, settled, sampleInRange, digitalOf, analogOf}
 use Rattle.sampling.specs.declared.Inputs.{Inputs}
 use Rattle.sampling.specs.declared.Sample.{Sample}

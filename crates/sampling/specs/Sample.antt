@@ -7,12 +7,12 @@ use lib.IntN.{ℤ, pos}
 use lib.ListN.{getD}
 use Rattle.words.specs.Word.{pick}
 use Rattle.order.specs.Order.{sameW}
-use Rattle.sheet.specs.Row.{allowed}
+use Rattle.rows.specs.Row.{allowed}
 use Rattle.sheet.specs.Rows.{rows, rowAt}
 use Rattle.sheet.specs.Sheet.{axis}
 use Rattle.sheet.specs.Places.{placeIn, allBelow}
 use Rattle.values.specs.Values.{setValue}
-use Rattle.registers.specs.Range.{eachUpTo, analogInRange}
+use Rattle.ranges.specs.Range.{eachUpTo, analogInRange}
 use Rattle.registers.specs.declared.Alarms.{Alarms}
 use Rattle.sampling.specs.declared.Readings.{Readings}
 use Rattle.sampling.specs.declared.Inputs.{Inputs}

@@ -34,11 +34,11 @@ impl Inputs {
         let a = self.digital_0;
         let b = self.digital_1;
         let bits = [a.v, b.v];
-        if !registers::each_up_to(&bits, Word { v: 1 }) {
+        if !ranges::each_up_to(&bits, Word { v: 1 }) {
             return false;
         }
         let analog = self.analog();
-        registers::analog_in_range(&analog)
+        ranges::analog_in_range(&analog)
     }
 
     pub fn digital(self) -> [u8; 2]
@@ -63,7 +63,7 @@ impl Signals {
         let b = self.edv;
         let c = self.epo;
         let bits = [a.v, b.v, c.v];
-        registers::each_up_to(&bits, Word { v: 1 })
+        ranges::each_up_to(&bits, Word { v: 1 })
     }
 
     // The alarms that are on.

@@ -39,8 +39,8 @@ fn settings_in_range(settings: &[i32; 8]) -> bool
     let mut i = 0;
     while i < 8 {
         let v = settings[i];
-        let row = sheet::row_at(sheet::axis_place(NUMBERS[i]));
-        if !sheet::allowed(row, Word { v: v }) {
+        let row = sheet::row_at(places::axis_place(NUMBERS[i]));
+        if !rows::allowed(row, Word { v: v }) {
             return false;
         }
         i += 1;
@@ -55,7 +55,7 @@ pub fn put_settings(values: &mut [i32; 103], settings: &[i32; 8])
     let mut i = 0;
     while i < 8 {
         let v = settings[i];
-        values::put_value(values, sheet::axis_place(NUMBERS[i]), Word { v: v });
+        values::put_value(values, places::axis_place(NUMBERS[i]), Word { v: v });
         i += 1;
     }
 }

@@ -8,10 +8,10 @@ use mathlib.Core.List.{List, [], _∷_}
 use lib.Dec.{T}
 use lib.ListN.{length, getD, take}
 use Rattle.words.specs.Word.{pick}
-use Rattle.sheet.specs.Row.{stored}
+use Rattle.rows.specs.Row.{stored}
 use Rattle.sheet.specs.Rows.{rowAt, cells, cellOf}
 use Rattle.sheet.specs.Sheet.{userRow}
-use Rattle.sheet.specs.declared.Row.{Row}
+use Rattle.rows.specs.declared.Row.{Row}
 
 -- one row more, with a cell or without
 own-step : (b : Bool) (x : Row) (xs ys : List Row) → getD (pick b (x ∷ ys) ys) (length (pick b (x ∷ xs) xs)) userRow ≡ getD ys (length xs) userRow

@@ -8,7 +8,7 @@ use mathlib.Core.List.{List, [], _∷_, map}
 use borrow.Author.Tests.{ne-eqb}
 use lib.ListN.{length}
 use Rattle.sheet.specs.Places.{placeIn}
-use Rattle.sheet.specs.declared.Row.{Row}
+use Rattle.rows.specs.declared.Row.{Row}
 
 -- as the arm is told it: one key after the other, the pairs nested to the left
 abbrev pub Nest : Type 0 → ℕ → List ℕ → Type 0

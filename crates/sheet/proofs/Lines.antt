@@ -9,12 +9,12 @@ use lib.ListN.{length, getD, drop, take, replicate, List·getD-append}
 use lib.Seq.{getD-drop}
 use Rattle.words.specs.Word.{pick}
 use Rattle.sheet.specs.Line.{accessOf, codeOf, lineOf, rowOf, linesFrom, noLine}
-use Rattle.sheet.specs.Row.{stored}
+use Rattle.rows.specs.Row.{stored}
 use Rattle.sheet.specs.Rows.{rowAt, cells, cellOf}
 use Rattle.sheet.specs.Sheet.{userRow}
-use Rattle.sheet.specs.declared.Row.{Row}
-use Rattle.sheet.specs.declared.Access.{Access}
-use Rattle.sheet.specs.declared.Access.the-variants.{Rwe, Rw, R}
+use Rattle.rows.specs.declared.Row.{Row}
+use Rattle.rows.specs.declared.Access.{Access}
+use Rattle.rows.specs.declared.Access.the-variants.{Rwe, Rw, R}
 
 same-access : (a : Access) → accessOf (codeOf a) ≡ a
 same-access Rwe = refl

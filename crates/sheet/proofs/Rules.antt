@@ -14,11 +14,11 @@ use Rattle.words.specs.Word.{pick}
 use Rattle.words.specs.declared.Word.{Word}
 use Rattle.words.proofs.Bools.{and-left, and-right}
 use Rattle.sheet.specs.Laws.{Laws, Rising, oneOf}
-use Rattle.sheet.specs.Row.{allowed, taken}
+use Rattle.rows.specs.Row.{allowed, taken}
 use Rattle.sheet.specs.Rows.{parameters, rows, rowAt}
 use Rattle.sheet.specs.Sheet.{axis, globals, readOnly, rweRows, rwRows, rRows, userRow}
-use Rattle.sheet.specs.declared.Row.{Row}
-use Rattle.sheet.specs.declared.Access.the-variants.{Rwe}
+use Rattle.rows.specs.declared.Row.{Row}
+use Rattle.rows.specs.declared.Access.the-variants.{Rwe}
 use Rattle.sheet.specs.Places.{allBelow}
 use Rattle.sheet.proofs.Below.{below}
 use Rattle.sheet.proofs.Counts.{own, rise}

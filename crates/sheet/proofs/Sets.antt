@@ -9,9 +9,9 @@ use lib.Dec.{T, leb, leb·zero}
 use lib.IntN.{ℤ, pos, negsuc}
 use Rattle.words.specs.Word.{word}
 use Rattle.sheet.specs.Laws.{oneOf}
-use Rattle.sheet.specs.Row.{allowed}
-use Rattle.sheet.specs.declared.Row.{Row}
-use Rattle.sheet.specs.declared.Access.{Access}
+use Rattle.rows.specs.Row.{allowed}
+use Rattle.rows.specs.declared.Row.{Row}
+use Rattle.rows.specs.declared.Access.{Access}
 use Rattle.sheet.specs.Places.{allBelow}
 use Rattle.sheet.proofs.Below.{below}
 

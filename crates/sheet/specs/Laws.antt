@@ -9,11 +9,11 @@ use lib.ListN.{length, getD, replicate}
 use mir.Syntax.{w32}
 use mir.Val.{SFits}
 use Rattle.words.specs.declared.Word.{Word}
-use Rattle.sheet.specs.Row.{allowed, taken, stored}
+use Rattle.rows.specs.Row.{allowed, taken, stored}
 use Rattle.sheet.specs.Sheet.{axis, globals, readOnly, rweRows, userRow}
 use Rattle.sheet.specs.Rows.{parameters, rows, rowAt, cells, cellOf}
 use Rattle.sheet.specs.Places.{placeIn}
-use Rattle.sheet.specs.declared.Row.{Row}
+use Rattle.rows.specs.declared.Row.{Row}
 
 -- the axis parameter of a number
 abbrev pub parameter : ℕ → Row

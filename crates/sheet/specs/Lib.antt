@@ -1,4 +1,3 @@
-pub mod Row
 pub mod Sheet
 pub mod Rows
 pub mod Line

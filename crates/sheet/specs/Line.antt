@@ -5,11 +5,11 @@ use lib.Dec.{eqb}
 use lib.IntN.{pos}
 use lib.ListN.{getD}
 use Rattle.words.specs.Word.{word, pick}
-use Rattle.sheet.specs.Row.{stored}
+use Rattle.rows.specs.Row.{stored}
 use Rattle.sheet.specs.Rows.{parameters}
-use Rattle.sheet.specs.declared.Access.{Access}
-use Rattle.sheet.specs.declared.Access.the-variants.{Rwe, Rw, R}
-use Rattle.sheet.specs.declared.Row.{Row}
+use Rattle.rows.specs.declared.Access.{Access}
+use Rattle.rows.specs.declared.Access.the-variants.{Rwe, Rw, R}
+use Rattle.rows.specs.declared.Row.{Row}
 use Rattle.sheet.specs.declared.table.Line.{Line}
 
 -- the last letter of RWE, RW and R

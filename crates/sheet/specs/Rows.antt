@@ -4,9 +4,9 @@ use Prim.Native.Nat.{ℕ}
 use mathlib.Core.List.{List, [], _∷_, _++_}
 use lib.ListN.{length, getD, take, replicate}
 use Rattle.words.specs.Word.{pick}
-use Rattle.sheet.specs.Row.{stored}
+use Rattle.rows.specs.Row.{stored}
 use Rattle.sheet.specs.Sheet.{axis, globals, userRow}
-use Rattle.sheet.specs.declared.Row.{Row}
+use Rattle.rows.specs.declared.Row.{Row}
 
 -- what may be out of range: axis parameters and globals
 unfoldable pub parameters : List Row

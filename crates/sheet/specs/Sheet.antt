@@ -4,9 +4,9 @@ use mathlib.Core.List.{List, [], _∷_, _++_, map}
 use lib.Dec.{ltb}
 use lib.IntN.{ℤ, pos, negsuc}
 use Rattle.words.specs.Word.{pick, word}
-use Rattle.sheet.specs.declared.Row.{Row}
-use Rattle.sheet.specs.declared.Access.{Access}
-use Rattle.sheet.specs.declared.Access.the-variants.{Rwe, Rw, R}
+use Rattle.rows.specs.declared.Row.{Row}
+use Rattle.rows.specs.declared.Access.{Access}
+use Rattle.rows.specs.declared.Access.the-variants.{Rwe, Rw, R}
 
 -- "Number: low..high default", for each of the numbers
 abbrev pub span : Access → List ℕ → ℤ → ℤ → ℤ → List Row

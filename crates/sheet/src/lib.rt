@@ -6,35 +6,10 @@
 ghost use mathlib.Core.Path.{_≡_};
 ghost use Rattle.sheet.specs.Laws.{Laws};
 
-mod places;
-mod range;
 mod table;
 
-pub use places::axis_place;
-pub use places::global_place;
-pub use range::allowed;
-pub use range::taken;
 pub use table::cell_of;
 pub use table::row_at;
-use words::Word;
-
-// Read, write, and kept in a cell.
-pub enum Access {
-    Rwe,
-    Rw,
-    R,
-}
-
-// What a parameter may be. Where the mask is not 0, only the values 0 to 31 that have their bit in
-// it are allowed.
-pub struct Row {
-    pub number: u8,
-    pub access: Access,
-    pub low: Word,
-    pub high: Word,
-    pub standard: Word,
-    pub mask: u32,
-}
 
 // A place or a cell, from the byte of a table.
 fn wide(b: u8) -> usize

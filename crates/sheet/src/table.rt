@@ -3,9 +3,9 @@ ghost use mathlib.Core.Path.{_≡_};
 ghost use Rattle.sheet.specs.Rows.{rows, rowAt, cellOf};
 ghost use Rattle.sheet.specs.Line.{accessOf, rowOf, lineAt};
 ghost use Rattle.sheet.specs.Sheet.{userRow};
-use crate::Access;
-use crate::Row;
 use crate::wide;
+use rows::Access;
+use rows::Row;
 use words::Word;
 
 // Number, access by its last letter, low, high, default, mask, and the cell (of a row that has

@@ -1,7 +1,7 @@
 -- Power-up on three stores, computed. Assumes nothing.
 use mathlib.Core.Path.{refl}
 use Rattle.words.specs.Bytes.{wordOf}
-use Rattle.sheet.specs.Row.{allowed, taken}
+use Rattle.rows.specs.Row.{allowed, taken}
 use Rattle.sheet.specs.Rows.{rows, parameters}
 use Rattle.sheet.specs.Sheet.{axis, globals, rweRows, rwRows, rRows}
 use Rattle.store.specs.Store.{written, cellAt, putCell}

@@ -12,7 +12,7 @@ use lib.ListN.{length, getD, set, length-set}
 use lib.Seq.{getD-set-same, getD-set-other}
 use Rattle.words.specs.Word.{pick, word}
 use Rattle.words.proofs.Bools.{is-true, is-T}
-use Rattle.sheet.specs.Row.{allowed, taken, stored}
+use Rattle.rows.specs.Row.{allowed, taken, stored}
 use Rattle.sheet.specs.Rows.{rows, parameters, rowAt, cellOf}
 use Rattle.sheet.specs.Sheet.{axis, globals, rweRows, rwRows, rRows}
 use Rattle.sheet.proofs.Below.{below, below-of}

@@ -8,11 +8,11 @@ use borrow.Author.Tests.{lt-ltb}
 use lib.IntN.{ℤ, pos}
 use lib.ListN.{getD, replicate}
 use Rattle.words.specs.declared.Word.{Word}
-use Rattle.sheet.specs.Row.{allowed}
+use Rattle.rows.specs.Row.{allowed}
 use Rattle.sheet.specs.Rows.{parameters, rows, rowAt}
 use Rattle.sheet.specs.Sheet.{axis, globals, rweRows, rwRows, rRows, userRow}
 use Rattle.sheet.specs.Places.{allBelow}
-use Rattle.sheet.specs.declared.Row.{Row}
+use Rattle.rows.specs.declared.Row.{Row}
 use Rattle.sheet.proofs.Below.{below-not}
 use Rattle.sheet.proofs.Lines.{parameter-row}
 use Rattle.values.specs.Values.{valueAt, valuesInRange}

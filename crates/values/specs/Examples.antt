@@ -8,7 +8,7 @@ use Rattle.words.specs.Word.{word}
 use Rattle.sheet.specs.Rows.{rows, cells}
 use Rattle.sheet.specs.Places.{placeIn}
 use Rattle.sheet.specs.Sheet.{axis}
-use Rattle.sheet.specs.declared.Row.{Row}
+use Rattle.rows.specs.declared.Row.{Row}
 use Rattle.store.specs.Store.{cellBytes, putCell}
 use Rattle.values.specs.Values.{valueAt, poweredValues}
 

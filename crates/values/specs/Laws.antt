@@ -6,7 +6,7 @@ use mathlib.Core.List.{List}
 use lib.IntN.{ℤ}
 use lib.ListN.{length}
 use Rattle.words.specs.Word.{word}
-use Rattle.sheet.specs.Row.{allowed, stored}
+use Rattle.rows.specs.Row.{allowed, stored}
 use Rattle.sheet.specs.Rows.{rows, parameters, rowAt, cellOf}
 use Rattle.store.specs.Store.{cellAt}
 use Rattle.values.specs.Values.{valueAt, setValue, valuesInRange, poweredValues}

@@ -7,10 +7,10 @@ use lib.IntN.{ℤ, pos}
 use lib.ListN.{length, getD, set}
 use Rattle.words.specs.Word.{pick, word}
 use Rattle.words.specs.declared.Word.{Word}
-use Rattle.sheet.specs.Row.{allowed, taken, stored}
+use Rattle.rows.specs.Row.{allowed, taken, stored}
 use Rattle.sheet.specs.Rows.{rowAt, cellOf}
 use Rattle.sheet.specs.Places.{tabulate, allBelow}
-use Rattle.sheet.specs.declared.Row.{Row}
+use Rattle.rows.specs.declared.Row.{Row}
 use Rattle.store.specs.Store.{cellAt}
 
 -- the value at a place; 0 past the last of the 103

@@ -7,7 +7,7 @@ ghost use Rattle.sheet.specs.Rows.{rows, parameters};
 ghost use Rattle.values.specs.Values.{valueAt, setValue, valuesInRange, poweredAt, poweredValues};
 ghost use Rattle.values.specs.Examples.{Examples};
 ghost use Rattle.values.specs.Laws.{Laws};
-use sheet::Access;
+use rows::Access;
 use words::Word;
 
 // The value at a place; 0 past the last.
@@ -38,7 +38,7 @@ pub fn in_range(values: &[i32; 103]) -> bool
 {
     let mut place = 0;
     while place < 47 {
-        if !sheet::allowed(sheet::row_at(place), value_at(values, place)) {
+        if !rows::allowed(sheet::row_at(place), value_at(values, place)) {
             return false;
         }
         place += 1;
@@ -53,7 +53,7 @@ pub fn powered_value(store: &[u8], place: usize) -> Word
     let row = sheet::row_at(place);
     let access = row.access;
     match access {
-        Access::Rwe => sheet::taken(row, store::cell_at(store, sheet::cell_of(place))),
+        Access::Rwe => rows::taken(row, store::cell_at(store, sheet::cell_of(place))),
         Access::Rw => row.standard,
         Access::R => row.standard,
     }

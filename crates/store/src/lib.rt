@@ -1,9 +1,11 @@
 // Cells and records in memory that the caller lends: a parameter store of cells, four bytes each,
 // and a program store of records, seven bytes each.
 //
-// `write` lies beneath all writing. No function requires anything of a place: one that does not lie
-// within the memory reads as zero and is not written.
+// `write` lies beneath all writing. No public function requires anything of a place: one that does
+// not lie within the memory reads as zero and is not written.
 ghost use mathlib.Core.Path.{_≡_};
+ghost use Prim.Native.Nat.{_+_, _≤_};
+ghost use lib.ListN.{length};
 ghost use Rattle.store.specs.Laws.{Laws};
 ghost use Rattle.store.specs.Store.{written, cellAt, putCell, recordAt, putRecord};
 use wire::Command;
@@ -12,19 +14,16 @@ use words::Word;
 use words::four_of;
 use words::word_at;
 
-// Writes bytes from a place on, first byte first, or none where they do not all fit. The test
-// subtracts, since a place and a length may add up to more than a usize holds.
-pub fn write(store: &mut [u8], at: usize, bytes: &[u8])
+// The one writer beneath every cell and record: bytes from a place on, first byte first. Its callers
+// have shown that they fit.
+fn write(store: &mut [u8], at: usize, bytes: &[u8])
+    requires { ⌜ at + length (now bytes) ≤ length (now store) ⌝ }
     ensures { λ _. ⌜ now (store .exit) ≡ written (now (store .entry)) at (now (bytes .entry)) ⌝ }
 {
-    if bytes.len() <= store.len() {
-        if at <= store.len() - bytes.len() {
-            let mut i = 0;
-            while i < bytes.len() {
-                store[at + i] = bytes[i];
-                i += 1;
-            }
-        }
+    let mut i = 0;
+    while i < bytes.len() {
+        store[at + i] = bytes[i];
+        i += 1;
     }
 }
 

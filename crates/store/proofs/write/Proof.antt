@@ -6,7 +6,7 @@ use borrow.Author.Needs.{needs}
 use native.Mathlib.Nat.{add-zero}
 use lib.ListN.{length, drop, length-set}
 use lib.Seq.{sets}
-use Rattle.store.proofs.Written.{turn, none-left, written-in, written-out}
+use Rattle.store.proofs.Written.{turn, none-left, written-in}
 use Rattle.store.proofs.write.Statement.{statement}
 use Rattle.store.proofs.write.Tie as tie
 
@@ -23,7 +23,7 @@ loop-holds c = (search needs, refl, simp add-zero)
 loop-again : tie.Need-loop-again Inv-loop μ-loop
 loop-again c =
     let l = c .before .before in
-    let x = l .before .before .before .args in (
+    let x = l .before .args in (
       search needs,
       simp length-set (l .loop .inv .1),
       turn (l .loop .store) (x .bytes .now) (x .at) (l .loop .i) (c .before .loop-test .taken) ∙ l .loop .inv .2,
@@ -32,16 +32,10 @@ loop-again c =
 returns : tie.Need-returns Inv-loop μ-loop
 returns c =
     let l = c .before in
-    let x = l .before .before .before .args in
+    let x = l .before .args in
     sym (none-left (l .loop .store) (x .bytes .now) (x .at + l .loop .i) (l .loop .i) (c .loop-test .left))
     ∙ l .loop .inv .2
     ∙ sym (written-in (x .store .now) (x .at) (x .bytes .now) (search needs))
-
-returns-2 : tie.Need-returns-2 Inv-loop μ-loop
-returns-2 c = let x = c .before .before .args in sym (written-out (x .store .now) (x .at) (x .bytes .now) (search needs))
-
-returns-3 : tie.Need-returns-3 Inv-loop μ-loop
-returns-3 c = let x = c .before .args in sym (written-out (x .store .now) (x .at) (x .bytes .now) (search needs))
 
 pub write-spec : {M : Type 1} → statement M
 write-spec =
@@ -49,7 +43,6 @@ write-spec =
     (tie.spec
     Inv-loop
     μ-loop
-    (λ c. search needs)
     loop-holds
     (λ c. search needs)
     (λ c. search needs)
@@ -58,6 +51,4 @@ write-spec =
     (λ c. search needs)
     loop-again
     (λ c. search needs)
-    returns
-    returns-2
-    returns-3)
+    returns)

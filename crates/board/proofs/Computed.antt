@@ -11,13 +11,13 @@ use Rattle.ranges.specs.Range.{entriesInRange, bitsInRange, eachUpTo}
 use Rattle.registers.specs.Range.{coreInRange}
 use Rattle.registers.specs.Registers as reg
 use Rattle.sampling.specs.Sample.{settingsInRange, settled, sampleInRange}
-use Rattle.board.specs.Registers.{powered}
+use Rattle.board.specs.Registers.{unpowered, powered}
 use Rattle.board.specs.Range.{registersInRange}
 use Rattle.board.specs.Events.{poweredUp, sampled, ticked}
 use Rattle.board.specs.Examples.{Examples, begun}
 
 pub examples : Examples
-unfolding wordOf allowed taken rows parameters axis globals rweRows rwRows rRows written cellAt putCell valuesInRange poweredAt poweredValues defaultCells coreInRange entriesInRange bitsInRange eachUpTo reg.ticked reg.raised settingsInRange settled sampleInRange powered registersInRange poweredUp sampled ticked begun
+unfolding wordOf allowed taken rows parameters axis globals rweRows rwRows rRows written cellAt putCell valuesInRange poweredAt poweredValues defaultCells coreInRange entriesInRange bitsInRange eachUpTo reg.ticked reg.raised settingsInRange settled sampleInRange powered registersInRange poweredUp sampled ticked begun unpowered
 examples =
     record {
       default-cells = refl;
@@ -55,4 +55,15 @@ examples =
       flag-2 = refl;
       output-2 = refl;
       first-23 = refl;
+      address-1024 = refl;
+      address-1025 = refl;
+      input-2 = refl;
+      input-65536 = refl;
+      input-below-0 = refl;
+      parameter-102 = refl;
+      global-66 = refl;
+      user-any = refl;
+      count-any = refl;
+      unpowered-tick = refl;
+      unpowered-power-up = refl;
     }

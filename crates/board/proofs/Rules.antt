@@ -1,16 +1,20 @@
 -- The laws of the events. Assumes nothing.
 use Prim.Native.Nat.{ℕ, _<_}
+use native.Mathlib.Omega.{arith}
+use borrow.Author.Tests.{eq-eqb}
 use mathlib.Core.Path.{_≡_, refl, ap, _∙_}
-use mathlib.Core.Bool.{Bool, true, false, _&&_}
+use mathlib.Core.Bool.{true, _&&_}
 use mathlib.Core.List.{List}
 use lib.Dec.{eqb, lit<}
 use lib.IntN.{pos}
 use lib.ListN.{length, replicate}
 use Rattle.words.specs.Word.{pick}
 use Rattle.words.specs.declared.Word.{Word}
-use Rattle.words.proofs.Bools.{is-true, is-T, each}
+use Rattle.words.proofs.Bools.{is-true, is-T, each, picked}
 use Rattle.order.specs.Order.{sameW}
 use Rattle.sheet.specs.Rows.{rows, parameters}
+use Rattle.sheet.specs.Places.{globalPlace}
+use Rattle.sheet.specs.Sheet.{axis, globals, rweRows, rwRows, rRows}
 use Rattle.values.specs.Values.{valueAt, valuesInRange, poweredAt}
 use Rattle.values.proofs.Rules as values
 use Rattle.ranges.specs.Range.{entriesInRange, bitsInRange, analogInRange}
@@ -18,14 +22,17 @@ use Rattle.registers.specs.Range.{coreInRange, downloadInRange}
 use Rattle.registers.specs.Registers as reg
 use Rattle.registers.specs.Laws as reg-laws
 use Rattle.registers.proofs.Kept as registers
+use Rattle.stack.specs.Stack.{stack, emptied}
 use Rattle.sampling.specs.Sample.{sampleInRange, alarmsOf}
 use Rattle.sampling.specs.declared.Sample.{Sample}
 use Rattle.sampling.proofs.Rules as sampling
 use Rattle.board.specs.Registers.{powered, withSample, withTick}
 use Rattle.board.specs.Range.{addressesInRange, pinsInRange, registersInRange}
-use Rattle.board.specs.Events.{Outcome, outcome, poweredUp, sampled, ticked}
-use Rattle.board.specs.Laws.{Laws}
+use Rattle.board.specs.Events.{Outcome, outcome, statusOf, poweredUp, sampled, ticked}
+use Rattle.board.specs.Laws.{OneOutcome, Laws}
 use Rattle.board.specs.declared.Registers.{Registers}
+use Rattle.board.specs.declared.Answer.{Answer}
+use Rattle.board.specs.declared.Answer.the-variants.{Done, Length, Field, HandedIn}
 
 -- ---- the seven tests that make up the range of registers
 pub record Parts (r : Registers) : Type 0 where
@@ -107,11 +114,6 @@ module _ (r : Registers) (p : Parts r) where
         values = sampling.values-in-range s (r .values) e n (p .values);
       }
 
--- what holds of both outcomes holds of the one that is picked
-picked : (P : Outcome → Type 0) (b : Bool) (x y : Outcome) → (b ≡ true → P x) → P y → P (pick b x y)
-picked P true x y f g = f refl
-picked P false x y f g = g
-
 Kept : Outcome → Type 0
 Kept o = registersInRange (o .registers) ≡ true
 
@@ -161,9 +163,42 @@ powered-at : (s : List ℕ) (i : ℕ) → i < 103 → valueAt (powered s .values
 unfolding powered
 powered-at s i h = values.powered-at s i h
 
-powered-runs : (s : List ℕ) → powered s .core .running ≡ sameW (poweredAt rows s 46 .v) (pos 1)
-unfolding powered
+powered-runs : (s : List ℕ) → powered s .core .running ≡ sameW (poweredAt rows s (globalPlace 77) .v) (pos 1)
+unfolding powered axis globals rweRows rwRows rRows
 powered-runs s = ap (λ (w : Word). sameW (w .v) (pos 1)) (values.powered-at s 46 (lit< tt))
+
+-- ---- one answer
+one-answer : (a b : Answer) → statusOf a ≡ statusOf b → a ≡ b
+one-answer Done Done e = refl
+one-answer Done Length e = absurd (omega (arith, e))
+one-answer Done Field e = absurd (omega (arith, e))
+one-answer Done HandedIn e = absurd (omega (arith, e))
+one-answer Length Done e = absurd (omega (arith, e))
+one-answer Length Length e = refl
+one-answer Length Field e = absurd (omega (arith, e))
+one-answer Length HandedIn e = absurd (omega (arith, e))
+one-answer Field Done e = absurd (omega (arith, e))
+one-answer Field Length e = absurd (omega (arith, e))
+one-answer Field Field e = refl
+one-answer Field HandedIn e = absurd (omega (arith, e))
+one-answer HandedIn Done e = absurd (omega (arith, e))
+one-answer HandedIn Length e = absurd (omega (arith, e))
+one-answer HandedIn Field e = absurd (omega (arith, e))
+one-answer HandedIn HandedIn e = refl
+
+one-outcome : OneOutcome
+one-outcome x y e =
+    let a = one-answer (x .answer) (y .answer) (ap (λ (o : Outcome). o .status) e) in
+    let r : x .registers ≡ y .registers = ap (λ (o : Outcome). o .registers) e in
+    rw (a, r)
+
+power-up-done : (s : List ℕ) (r : Registers) → length s ≡ 364 → poweredUp s r ≡ outcome 100 (powered s)
+unfolding poweredUp
+power-up-done s r h = simp (eq-eqb (length s) 364 h)
+
+powered-stack : (s : List ℕ) → stack (powered s .entries) (powered s .core .depth) ≡ emptied
+unfolding powered
+powered-stack s = refl
 
 pub laws : Laws
 laws =
@@ -174,7 +209,10 @@ laws =
       tick-in-range = tick-in-range;
       powered-at = powered-at;
       powered-runs = powered-runs;
+      powered-stack = powered-stack;
+      power-up-done = power-up-done;
       power-up-refused = λ s r. power-up-refused r s;
       sample-refused = λ s r. sample-refused r s;
       tick-refused = tick-refused;
+      one-outcome = one-outcome;
     }

@@ -7,7 +7,7 @@ use lib.IntN.{ℤ, pos, negsuc}
 use lib.ListN.{take, replicate, set}
 use Rattle.words.specs.Word.{word}
 use Rattle.sheet.specs.Rows.{rows}
-use Rattle.sheet.specs.Places.{placeIn}
+use Rattle.sheet.specs.Places.{placeIn, globalPlace}
 use Rattle.sheet.specs.Sheet.{axis}
 use Rattle.store.specs.Store.{putCell}
 use Rattle.values.specs.Values.{valueAt}
@@ -16,7 +16,7 @@ use Rattle.registers.specs.Registers.{poweredCore, noDownload}
 use Rattle.registers.specs.declared.Wait.{Wait}
 use Rattle.registers.specs.declared.Flags.{Flags}
 use Rattle.sampling.specs.declared.Sample.{Sample}
-use Rattle.board.specs.Registers.{powered}
+use Rattle.board.specs.Registers.{unpowered, powered}
 use Rattle.board.specs.Events.{outcome, poweredUp, sampled, ticked}
 use Rattle.board.specs.declared.Registers.{Registers}
 
@@ -55,6 +55,30 @@ handedIn w d f o e a =
       analog = begun .analog;
       entries = set (begun .entries) 7 e;
       values = begun .values;
+    }
+
+-- a program address, digital and analog inputs and values handed in
+abbrev pub strange : ℕ → List ℕ → List ℤ → List ℤ → Registers
+strange a d i v =
+    record {
+      core =
+          record {
+            accumulator = begun .core .accumulator;
+            x = begun .core .x;
+            last = begun .core .last;
+            flags = begun .core .flags;
+            address = a;
+            running = true;
+            wait = begun .core .wait;
+            motion = begun .core .motion;
+            depth = 0;
+          };
+      download = begun .download;
+      outputs = begun .outputs;
+      digital = d;
+      analog = i;
+      entries = begun .entries;
+      values = v;
     }
 
 abbrev pub wait : Bool → ℕ → Wait
@@ -114,7 +138,7 @@ pub record Examples : Type 0 where
   pub short-store : poweredUp (take 363 defaultCells) (waiting true 5) ≡ outcome 20 (waiting true 5)
   pub long-store : poweredUp (0 ∷ defaultCells) (waiting true 5) ≡ outcome 20 (waiting true 5)
   -- and registers out of range are not, at power-up
-  pub any-registers : poweredUp defaultCells (handedIn (wait false 0) 9 (flags 2 2 2 2) [] 1025 1025) ≡ outcome 100 begun
+  pub any-registers : poweredUp defaultCells (handedIn (wait false 0) 9 (flags 2 2 2 2) (replicate 4 2) 1025 1025) ≡ outcome 100 begun
   -- ---- a sample sets its eight parameters, the inputs and the flags of its alarms
   pub sample-51 : axisOf (sampled calm begun .registers) 51 ≡ negsuc 2147483647
   pub sample-52 : axisOf (sampled calm begun .registers) 52 ≡ pos 2147483647
@@ -147,3 +171,16 @@ pub record Examples : Type 0 where
   pub flag-2 : ticked (handedIn (wait false 0) 0 (flags 0 0 2 0) (replicate 4 0) 0 0) .status ≡ 23
   pub output-2 : ticked (handedIn (wait false 0) 0 (flags 0 0 0 0) (0 ∷ 0 ∷ 0 ∷ 2 ∷ []) 0 0) .status ≡ 23
   pub first-23 : sampled (sample (pos 2) (pos 0) (pos 2) (pos 0) (pos 2) (pos 2)) (handedIn (wait false 0) 9 (flags 0 0 0 0) (replicate 4 0) 0 0) .status ≡ 23
+  pub address-1024 : ticked (strange 1024 (1 ∷ 1 ∷ []) (replicate 3 (pos 65535)) (begun .values)) .status ≡ 100
+  pub address-1025 : ticked (strange 1025 (0 ∷ 0 ∷ []) (replicate 3 (pos 0)) (begun .values)) .status ≡ 23
+  pub input-2 : ticked (strange 0 (0 ∷ 2 ∷ []) (replicate 3 (pos 0)) (begun .values)) .status ≡ 23
+  pub input-65536 : ticked (strange 0 (0 ∷ 0 ∷ []) (pos 0 ∷ pos 0 ∷ pos 65536 ∷ []) (begun .values)) .status ≡ 23
+  pub input-below-0 : ticked (strange 0 (0 ∷ 0 ∷ []) (negsuc 0 ∷ pos 0 ∷ pos 0 ∷ []) (begun .values)) .status ≡ 23
+  pub parameter-102 : ticked (strange 0 (0 ∷ 0 ∷ []) (replicate 3 (pos 0)) (set (begun .values) (placeIn axis 102) (pos 1))) .status ≡ 23
+  pub global-66 : ticked (strange 0 (0 ∷ 0 ∷ []) (replicate 3 (pos 0)) (set (begun .values) (globalPlace 66) (pos 0))) .status ≡ 23
+  -- ---- a user variable and a count are never out of range
+  pub user-any : ticked (strange 0 (0 ∷ 0 ∷ []) (replicate 3 (pos 0)) (set (begun .values) 102 (negsuc 2147483647))) .status ≡ 100
+  pub count-any : ticked (waiting true 4294967295) .status ≡ 100
+  -- ---- before the first power-up only power-up is taken
+  pub unpowered-tick : ticked unpowered .status ≡ 23
+  pub unpowered-power-up : poweredUp defaultCells unpowered ≡ outcome 100 begun

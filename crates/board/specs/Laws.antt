@@ -7,12 +7,19 @@ use lib.IntN.{pos}
 use lib.ListN.{length}
 use Rattle.order.specs.Order.{sameW}
 use Rattle.sheet.specs.Rows.{rows}
+use Rattle.sheet.specs.Places.{globalPlace}
 use Rattle.values.specs.Values.{valueAt, poweredAt}
+use Rattle.stack.specs.Stack.{stack, emptied}
 use Rattle.sampling.specs.declared.Sample.{Sample}
 use Rattle.board.specs.Registers.{powered}
 use Rattle.board.specs.Range.{registersInRange}
-use Rattle.board.specs.Events.{poweredUp, sampled, ticked}
+use Rattle.board.specs.Events.{outcome, outcomeOf, poweredUp, sampled, ticked}
 use Rattle.board.specs.declared.Registers.{Registers}
+use Rattle.board.specs.declared.After.{After}
+
+-- an event's answer is known by its registers and its number
+abbrev pub OneOutcome : Type 0
+OneOutcome = (x y : After) → outcomeOf x ≡ outcomeOf y → x ≡ y
 
 pub record Laws : Type 0 where
   -- power-up leaves registers in range, whatever the cells hold; sample and tick keep registers in range
@@ -23,8 +30,14 @@ pub record Laws : Type 0 where
   pub tick-in-range : (r : Registers) → registersInRange r ≡ true → registersInRange (ticked r .registers) ≡ true
   -- after power-up each value is the one of its cell or its default, and the program runs exactly if global 77 is 1
   pub powered-at : (s : List ℕ) (i : ℕ) → i < 103 → valueAt (powered s .values) i ≡ poweredAt rows s i
-  pub powered-runs : (s : List ℕ) → powered s .core .running ≡ sameW (poweredAt rows s 46 .v) (pos 1)
+  pub powered-runs : (s : List ℕ) → powered s .core .running ≡ sameW (poweredAt rows s (globalPlace 77) .v) (pos 1)
+  -- the stack is empty then
+  pub powered-stack : (s : List ℕ) → stack (powered s .entries) (powered s .core .depth) ≡ emptied
+  -- power-up is done whatever registers are handed in
+  pub power-up-done : (s : List ℕ) (r : Registers) → length s ≡ 364 → poweredUp s r ≡ outcome 100 (powered s)
   -- a refused event changes nothing
   pub power-up-refused : (s : List ℕ) (r : Registers) → (poweredUp s r .status ≡ 100 → ⊥) → poweredUp s r .registers ≡ r
   pub sample-refused : (s : Sample) (r : Registers) → (sampled s r .status ≡ 100 → ⊥) → sampled s r .registers ≡ r
   pub tick-refused : (r : Registers) → (ticked r .status ≡ 100 → ⊥) → ticked r .registers ≡ r
+  -- two answers that meet an event's promise are one
+  pub one-outcome : OneOutcome

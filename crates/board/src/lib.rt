@@ -6,7 +6,7 @@ ghost use mathlib.Core.Path.{_≡_};
 ghost use Rattle.board.specs.Events.{outcomeOf, poweredUp, sampled, ticked};
 ghost use Rattle.board.specs.Examples.{Examples};
 ghost use Rattle.board.specs.Laws.{Laws};
-ghost use Rattle.board.specs.Registers.{powered, withSample, withTick};
+ghost use Rattle.board.specs.Registers.{unpowered, powered, withSample, withTick};
 use registers::Core;
 use registers::Download;
 use sampling::Sample;
@@ -41,9 +41,25 @@ pub struct After {
 }
 
 impl Registers {
+    // Before the first power-up: all 0. Parameters are out of range then, so every event but power-up
+    // is refused.
+    pub fn unpowered() -> Self
+        ensures { λ r. ⌜ r ≡ unpowered ⌝ }
+    {
+        Registers {
+            core: Core::powered(false),
+            download: Download::none(),
+            outputs: [0u8; 4],
+            digital: [0u8; 2],
+            analog: [0i32; 3],
+            entries: [0u16; 8],
+            values: [0i32; 103],
+        }
+    }
+
     // What power-up leaves. Global 77, whether the program runs, is the last before the user
     // variables.
-    pub fn powered(store: &[u8]) -> Self
+    fn powered(store: &[u8]) -> Self
         ensures { λ r. ⌜ r ≡ powered (now (store .entry)) ⌝ }
     {
         let values = values::powered(store);
@@ -106,6 +122,7 @@ impl Registers {
         }
     }
 
+    // A sample. Registers out of range are refused before a field is looked at.
     pub fn sample(self, s: Sample) -> After
         ensures { λ r. ⌜ outcomeOf r ≡ sampled s self ⌝ }
     {
@@ -127,6 +144,7 @@ impl Registers {
         }
     }
 
+    // 10 ms more.
     pub fn tick(self) -> After
         ensures { λ r. ⌜ outcomeOf r ≡ ticked self ⌝ }
     {

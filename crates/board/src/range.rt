@@ -30,6 +30,7 @@ fn pins_in_range(outputs: &[u8; 4], digital: &[u8; 2], analog: &[i32; 3]) -> boo
 }
 
 impl Registers {
+    // Whether all is in range that 23 names.
     pub fn in_range(self) -> bool
         ensures { λ r. ⌜ r ≡ registersInRange self ⌝ }
     {

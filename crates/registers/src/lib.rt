@@ -1,7 +1,7 @@
-// The scalar registers, by value, and which registers are in range.
+// The scalar registers, by value, and which of them are in range.
 //
 // No method requires anything: flags, addresses and the depth stand in types that hold values out of
-// range too, since registers can be handed in so. The arrays are lent and are judged apart.
+// range too, since registers can be handed in so.
 ghost use mathlib.Core.Path.{_≡_};
 ghost use Rattle.registers.specs.Laws.{Laws};
 ghost use Rattle.registers.specs.Range.{flagsInRange, coreInRange, downloadInRange};
@@ -58,7 +58,7 @@ pub struct Download {
     pub address: u16,
 }
 
-// What a step changes, without the arrays: a copy of it stays in machine registers.
+// What a step changes, without the arrays.
 pub struct Core {
     pub accumulator: Word,
     pub x: Word,

@@ -1,5 +1,5 @@
 -- A sample in range leaves what it sets in range. Assumes nothing.
-use Prim.Native.Nat.{ℕ, zero, suc, _≤_}
+use Prim.Native.Nat.{ℕ, zero, suc, _≤_, _<_}
 use native.Mathlib.Omega.{arith}
 use mathlib.Core.Path.{_≡_, refl, _∙_}
 use mathlib.Core.Bool.{Bool, true, false, _&&_}
@@ -10,8 +10,8 @@ use Rattle.words.specs.Word.{pick}
 use Rattle.words.proofs.Bools.{is-true, is-T, each}
 use Rattle.sheet.specs.Rows.{parameters}
 use Rattle.sheet.proofs.Below.{below}
-use Rattle.values.specs.Values.{valuesInRange}
-use Rattle.values.proofs.Rules.{set-length, set-in-range}
+use Rattle.values.specs.Values.{valueAt, valuesInRange}
+use Rattle.values.proofs.Rules.{set-length, set-other, set-in-range}
 use Rattle.ranges.specs.Range.{bitsInRange, eachUpTo, analogInRange}
 use Rattle.sampling.specs.Sample.{settings, placeOf, settingsInRange, readingsInRange, inputsInRange, signalsInRange, settled, sampleInRange, isOn, digitalOf, analogOf}
 use Rattle.sampling.specs.Laws.{Laws}
@@ -32,6 +32,14 @@ module _ (zs : List ℤ) where
   stays (suc n) vs h g l v =
       set-in-range (settled zs n vs) (placeOf n) (getD zs n (pos 0)) (values-length n vs ∙ l) (stays n vs (omega arith) g l v)
       (is-true (good zs n) (below (good zs) 8 (is-T (settingsInRange zs) g) n (omega arith)))
+
+  -- the values that none of the first n sets
+  others : (vs : List ℤ) (p n : ℕ) → ((i : ℕ) → i < n → p ≡ placeOf i → ⊥) → valueAt (settled zs n vs) p ≡ valueAt vs p
+  unfolding settled
+  others vs p zero h = refl
+  others vs p (suc n) h =
+      set-other (settled zs n vs) (placeOf n) (getD zs n (pos 0)) p (h n (omega arith))
+      ∙ others vs p n (λ i l. h i (omega arith))
 
 -- ---- the parts of a sample
 module _ (s : Sample) where
@@ -64,6 +72,7 @@ laws =
     record {
       values-in-range = values-in-range;
       values-length = values-length;
+      others-stay = λ zs vs p h. others zs vs p 8 h;
       digital-in-range = digital-in-range;
       analog-in-range = analog-in-range;
     }

@@ -1,14 +1,14 @@
 -- What a user of samples relies on.
-use Prim.Native.Nat.{ℕ}
+use Prim.Native.Nat.{ℕ, _<_}
 use mathlib.Core.Path.{_≡_}
 use mathlib.Core.Bool.{true}
 use mathlib.Core.List.{List}
 use lib.IntN.{ℤ}
 use lib.ListN.{length}
 use Rattle.sheet.specs.Rows.{parameters}
-use Rattle.values.specs.Values.{valuesInRange}
+use Rattle.values.specs.Values.{valueAt, valuesInRange}
 use Rattle.ranges.specs.Range.{bitsInRange, analogInRange}
-use Rattle.sampling.specs.Sample.{settings, settled, sampleInRange, digitalOf, analogOf}
+use Rattle.sampling.specs.Sample.{settings, placeOf, settled, sampleInRange, digitalOf, analogOf}
 use Rattle.sampling.specs.declared.Inputs.{Inputs}
 use Rattle.sampling.specs.declared.Sample.{Sample}
 
@@ -17,5 +17,7 @@ pub record Laws : Type 0 where
   pub values-in-range : (s : Sample) (vs : List ℤ) → sampleInRange s ≡ true → length vs ≡ 103 → valuesInRange parameters vs ≡ true
       → valuesInRange parameters (settled (settings (s .readings)) 8 vs) ≡ true
   pub values-length : (zs : List ℤ) (n : ℕ) (vs : List ℤ) → length (settled zs n vs) ≡ length vs
+  -- every value but those eight stays
+  pub others-stay : (zs vs : List ℤ) (p : ℕ) → ((i : ℕ) → i < 8 → p ≡ placeOf i → ⊥) → valueAt (settled zs 8 vs) p ≡ valueAt vs p
   pub digital-in-range : (i : Inputs) → bitsInRange (digitalOf i) ≡ true
   pub analog-in-range : (s : Sample) → sampleInRange s ≡ true → analogInRange (analogOf (s .inputs)) ≡ true

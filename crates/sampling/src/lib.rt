@@ -1,6 +1,7 @@
 // A sample: what the board's inputs, switches and alarms are found to be, and what that sets.
 //
-// Each field is a number of any size, so that one out of range can be handed in.
+// Each field is a 32-bit number, so that one out of range can be handed in: a word where it is looked
+// at by itself, an i32 where it is set in an array.
 ghost use mathlib.Core.Path.{_≡_};
 ghost use Rattle.sampling.specs.Laws.{Laws};
 ghost use Rattle.sampling.specs.Sample.{sampleInRange};

@@ -5,7 +5,7 @@ use native.Mathlib.Omega.{arith}
 use mathlib.Core.Path.{_≡_, refl, ap, _∙_}
 use mathlib.Core.Bool.{Bool, true, false}
 use mathlib.Core.List.{List, [], _∷_, _++_}
-use lib.ListN.{length, getD, drop, take, replicate, List·getD-append}
+use lib.ListN.{length, getD, drop, take, List·getD-append}
 use lib.Seq.{getD-drop}
 use Rattle.words.specs.Word.{pick}
 use Rattle.sheet.specs.Line.{accessOf, codeOf, lineOf, rowOf, linesFrom, noLine}
@@ -37,12 +37,6 @@ parameter-row t after i h = List·getD-append t after userRow i h
 -- counted from n on
 pub from : (t : List Row) (n i : ℕ) → n ≤ i → rowAt (drop n t) (i - n) ≡ rowAt t i
 from t n i h = let e : n + (i - n) ≡ i = omega arith in getD-drop n t (i - n) userRow ∙ ap (rowAt t) e
-
--- each of the last rows is a user variable's, and what is past them is taken so
-pub users : (n i : ℕ) → userRow ≡ rowAt (replicate n userRow) i
-users zero i = refl
-users (suc n) zero = refl
-users (suc n) (suc i) = users n i
 
 cells-step : (b : Bool) (c : ℕ) (r : Row) (rs : List Row) → pick b (c + 1) c + length rs ≡ c + length (pick b (r ∷ rs) rs)
 cells-step true c r rs = omega arith

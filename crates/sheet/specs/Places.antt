@@ -3,13 +3,19 @@ use Prim.Native.Nat.{ℕ, zero, suc, _+_}
 use mathlib.Core.Bool.{Bool, true, _&&_}
 use mathlib.Core.List.{List, [], _∷_}
 use lib.Dec.{eqb}
+use lib.ListN.{length}
 use Rattle.words.specs.Word.{pick}
 use Rattle.rows.specs.declared.Row.{Row}
+use Rattle.sheet.specs.Sheet.{axis, globals}
 
 -- the place of the first row of that number, or how many there are
 abbrev pub placeIn : List Row → ℕ → ℕ
 placeIn [] n = 0
 placeIn (r ∷ rs) n = pick (eqb n (r .number)) 0 (placeIn rs n + 1)
+
+-- the place of a global of bank 0 among the working values
+abbrev pub globalPlace : ℕ → ℕ
+globalPlace n = length axis + placeIn globals n
 
 -- what a function gives at the n numbers from i on
 abbrev pub tabulate : {A : Type 0} → (ℕ → A) → ℕ → ℕ → List A

@@ -1,22 +1,19 @@
 -- The laws of the call stack. Assumes nothing.
 use mathlib.Core.Path.{_≡_, refl, sym, ap, _∙_}
-use mathlib.Core.Bool.{Bool, true, false, _&&_}
+use mathlib.Core.Bool.{_&&_}
 use mathlib.Core.List.{List, [], _∷_}
 use Prim.Native.Nat.{ℕ, zero, suc, _+_, _-_, _≤_, _<_}
 use native.Mathlib.Omega.{arith}
 use borrow.Author.Tests.{lt-ltb, le-ltb, le-leb, ltb-true}
 use lib.Dec.{ltb, leb}
-use lib.ListN.{length, getD, set, replicate, length-set}
+use lib.ListN.{length, getD, set, length-set}
 use lib.Seq.{getD-set-same, getD-set-other, set-set, set-getD}
-use Rattle.words.specs.Word.{pick}
+use Rattle.words.proofs.Bools.{picked}
+use Rattle.words.proofs.Lists.{all-same}
 use Rattle.stack.specs.Stack.{stack, taken, emptied, pushed, popped}
 use Rattle.stack.specs.Laws.{AllLow, Freed, Laws}
 use Rattle.stack.specs.declared.Stack.{Stack}
 use Rattle.stack.specs.declared.Popped.{Popped}
-
-either : {A : Type 0} (P : A → Type 0) (t : Bool) (a b : A) → (t ≡ true → P a) → P b → P (pick t a b)
-either P true a b p q = p refl
-either P false a b p q = q
 
 -- what holds of 0, of the entry that is stored and of every other holds of each entry after it
 each : (P : ℕ → Type 0) (e : List ℕ) (k a i : ℕ) → P 0 → P a → ((i ≡ k → ⊥) → P (getD e i 0)) → P (getD (set e k a) i 0)
@@ -26,17 +23,12 @@ each P (x ∷ xs) zero a (suc i) z p q = q (λ h. omega arith)
 each P (x ∷ xs) (suc k) a zero z p q = q (λ h. omega arith)
 each P (x ∷ xs) (suc k) a (suc i) z p q = each P xs k a i z p (λ n. q (λ h. n (omega arith)))
 
-zeros : (n i : ℕ) → getD {A = ℕ} (replicate n 0) i 0 ≡ 0
-zeros zero i = refl
-zeros (suc n) zero = refl
-zeros (suc n) (suc i) = zeros n i
-
 -- ---- push
 module _ (e : List ℕ) (d a : ℕ) where
   -- what holds with the address on the stack, where there is room, and of the stack as it was
   by-room : (P : Stack → Type 0) → (d < 8 → P (stack (set e d a) (d + 1))) → P (stack e d) → P (pushed e d a)
   unfolding pushed
-  by-room P p q = either P (ltb d 8) (stack (set e d a) (d + 1)) (stack e d) (λ t. p (ltb-true d 8 t)) q
+  by-room P p q = picked P (ltb d 8) (stack (set e d a) (d + 1)) (stack e d) (λ t. p (ltb-true d 8 t)) q
 
   room : d < 8 → pushed e d a ≡ stack (set e d a) (d + 1)
   unfolding pushed
@@ -79,7 +71,7 @@ module _ (e : List ℕ) (d : ℕ) where
   by-any : (P : Popped → Type 0) → P (taken (set e (d - 1) 0) (d - 1) (getD e (d - 1) 0)) → P (taken e d 0) → P (popped e d)
   unfolding popped
   by-any P p q =
-      either P (ltb 0 d && leb d 8) (taken (set e (d - 1) 0) (d - 1) (getD e (d - 1) 0)) (taken e d 0) (λ t. p) q
+      picked P (ltb 0 d && leb d 8) (taken (set e (d - 1) 0) (d - 1) (getD e (d - 1) 0)) (taken e d 0) (λ t. p) q
 
   pop-length : length (popped e d .stack .entries) ≡ length e
   pop-length = by-any (λ s. length (s .stack .entries) ≡ length e) (length-set e (d - 1) 0) refl
@@ -104,10 +96,10 @@ unfolding popped
 pop-empty e = refl
 
 empty-freed : Freed (emptied .entries) (emptied .depth)
-empty-freed i h = zeros 8 i
+empty-freed i h = all-same 0 8 i
 
 empty-low : AllLow (emptied .entries)
-empty-low i = rw (zeros 8 i) (omega arith)
+empty-low i = rw (all-same {A = ℕ} 0 8 i) (omega arith)
 
 pub laws : Laws
 laws =

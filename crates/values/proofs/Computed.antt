@@ -27,6 +27,5 @@ examples =
       bad-105 = refl;
       bad-66 = refl;
       bad-73 = refl;
-      kept-15 = refl;
       unstored = refl;
     }

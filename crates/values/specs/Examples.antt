@@ -6,7 +6,7 @@ use lib.IntN.{ℤ, pos, negsuc}
 use lib.ListN.{length, replicate}
 use Rattle.words.specs.Word.{word}
 use Rattle.sheet.specs.Rows.{rows, cells}
-use Rattle.sheet.specs.Places.{placeIn}
+use Rattle.sheet.specs.Places.{placeIn, globalPlace}
 use Rattle.sheet.specs.Sheet.{axis}
 use Rattle.rows.specs.declared.Row.{Row}
 use Rattle.store.specs.Store.{cellBytes, putCell}
@@ -39,6 +39,9 @@ mixedCells =
 abbrev pub axisAfter : List ℕ → ℕ → ℤ
 axisAfter s n = valueAt (poweredValues rows s) (placeIn axis n) .v
 
+abbrev pub globalAfter : List ℕ → ℕ → ℤ
+globalAfter s n = valueAt (poweredValues rows s) (globalPlace n) .v
+
 pub record Examples : Type 0 where
   pub default-length : length defaultCells ≡ 364
   pub default-cells : poweredValues rows defaultCells ≡ defaultsOf rows
@@ -47,7 +50,7 @@ pub record Examples : Type 0 where
   -- good: 10 is 255, 93 is -32768, 76 is 255, user variable 55 is -1
   pub good-10 : axisAfter mixedCells 10 ≡ pos 255
   pub good-93 : axisAfter mixedCells 93 ≡ negsuc 32767
-  pub good-76 : valueAt (poweredValues rows mixedCells) 45 ≡ word (pos 255)
+  pub good-76 : globalAfter mixedCells 76 ≡ pos 255
   pub good-user : valueAt (poweredValues rows mixedCells) 102 ≡ word (negsuc 0)
   -- bad: 18001 in 11, 2 in 14, 5 in 56, 1 in 102, -200001 in 105, 0 in 66, 2 in 73
   pub bad-11 : axisAfter mixedCells 11 ≡ pos 2000
@@ -55,9 +58,7 @@ pub record Examples : Type 0 where
   pub bad-56 : axisAfter mixedCells 56 ≡ pos 65536
   pub bad-102 : axisAfter mixedCells 102 ≡ pos 0
   pub bad-105 : axisAfter mixedCells 105 ≡ pos 100
-  pub bad-66 : valueAt (poweredValues rows mixedCells) 43 ≡ word (pos 1)
-  pub bad-73 : valueAt (poweredValues rows mixedCells) 44 ≡ word (pos 0)
-  -- and its neighbour, which was not changed
-  pub kept-15 : axisAfter mixedCells 15 ≡ pos 0
+  pub bad-66 : globalAfter mixedCells 66 ≡ pos 1
+  pub bad-73 : globalAfter mixedCells 73 ≡ pos 0
   -- 220, which has no cell, is 240
   pub unstored : axisAfter mixedCells 220 ≡ pos 240

@@ -2,6 +2,7 @@
 use mathlib.Core.Path.{_≡_, refl, sym, subst}
 use mathlib.Core.Bool.{Bool, true, false, _&&_}
 use lib.Dec.{T}
+use Rattle.words.specs.Word.{pick}
 
 pub is-true : (b : Bool) → T b → b ≡ true
 is-true true t = refl
@@ -36,3 +37,8 @@ module _ (a b c : Bool) where
 
   pub not-second : a ≡ true → b ≡ false → false ≡ a && b && c
   not-second e f = simp (e, f)
+
+-- ---- what holds of both, the first where the test holds, holds of the one that is picked
+pub picked : {A : Type 0} (P : A → Type 0) (b : Bool) (x y : A) → (b ≡ true → P x) → P y → P (pick b x y)
+picked P true x y f g = f refl
+picked P false x y f g = g

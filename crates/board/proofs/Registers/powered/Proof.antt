@@ -1,11 +1,12 @@
 -- `board::Registers::powered` meets its contract. Assumes nothing.
 use borrow.Author.Needs.{needs}
+use Rattle.sheet.specs.Sheet.{axis, globals, rweRows, rwRows, rRows}
 use Rattle.board.specs.Registers.{powered}
 use Rattle.board.proofs.Registers.powered.Statement.{statement}
 use Rattle.board.proofs.Registers.powered.Tie as tie
 
 returns : tie.Need-returns
-unfolding powered
+unfolding powered axis globals rweRows rwRows rRows
 returns c =
     let e = c .before .before in
     simp (

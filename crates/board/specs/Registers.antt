@@ -9,7 +9,8 @@ use Rattle.sheet.specs.Rows.{rows}
 use Rattle.sheet.specs.Places.{globalPlace}
 use Rattle.values.specs.Values.{valueAt, poweredValues}
 use Rattle.registers.specs.Registers.{withWait, withFlags, ticked, raised, poweredCore, noDownload}
-use Rattle.sampling.specs.Sample.{settings, settled, digitalOf, analogOf, alarmsOf}
+use Rattle.pins.specs.Pins.{digitalOf, analogOf, alarmsOf}
+use Rattle.sampling.specs.Sample.{settings, settled}
 use Rattle.sampling.specs.declared.Sample.{Sample}
 use Rattle.board.specs.declared.Registers.{Registers}
 

@@ -4,8 +4,6 @@
 // it was given.
 ghost use mathlib.Core.Path.{_≡_};
 ghost use Rattle.board.specs.Events.{outcomeOf, poweredUp, sampled, ticked};
-ghost use Rattle.board.specs.Examples.{Examples};
-ghost use Rattle.board.specs.Laws.{Laws};
 ghost use Rattle.board.specs.Registers.{unpowered, powered, withSample, withTick};
 use registers::Core;
 use registers::Download;
@@ -160,8 +158,3 @@ impl Registers {
         }
     }
 }
-
-// The laws of the events and worked examples, held to be proved: the function does nothing.
-pub fn laws()
-    ensures { λ _. ⌜ Laws × Examples ⌝ }
-{}

@@ -13,9 +13,10 @@ use Rattle.sheet.proofs.Below.{below}
 use Rattle.values.specs.Values.{valueAt, valuesInRange}
 use Rattle.values.proofs.Rules.{set-length, set-other, set-in-range}
 use Rattle.ranges.specs.Range.{bitsInRange, eachUpTo, analogInRange}
-use Rattle.sampling.specs.Sample.{settings, placeOf, settingsInRange, readingsInRange, inputsInRange, signalsInRange, settled, sampleInRange, isOn, digitalOf, analogOf}
+use Rattle.pins.specs.Pins.{inputsInRange, signalsInRange, isOn, digitalOf, analogOf}
+use Rattle.sampling.specs.Sample.{settings, placeOf, settingsInRange, readingsInRange, settled, sampleInRange}
 use Rattle.sampling.specs.Laws.{Laws}
-use Rattle.sampling.specs.declared.Inputs.{Inputs}
+use Rattle.pins.specs.declared.Inputs.{Inputs}
 use Rattle.sampling.specs.declared.Sample.{Sample}
 use Rattle.sampling.proofs.Turns.{good}
 

@@ -8,8 +8,9 @@ use lib.ListN.{length}
 use Rattle.sheet.specs.Rows.{parameters}
 use Rattle.values.specs.Values.{valueAt, valuesInRange}
 use Rattle.ranges.specs.Range.{bitsInRange, analogInRange}
-use Rattle.sampling.specs.Sample.{settings, placeOf, settled, sampleInRange, digitalOf, analogOf}
-use Rattle.sampling.specs.declared.Inputs.{Inputs}
+use Rattle.pins.specs.Pins.{digitalOf, analogOf}
+use Rattle.sampling.specs.Sample.{settings, placeOf, settled, sampleInRange}
+use Rattle.pins.specs.declared.Inputs.{Inputs}
 use Rattle.sampling.specs.declared.Sample.{Sample}
 
 pub record Laws : Type 0 where

@@ -5,18 +5,13 @@ use mathlib.Core.Bool.{Bool, _&&_}
 use mathlib.Core.List.{List, [], _∷_}
 use lib.IntN.{ℤ, pos}
 use lib.ListN.{getD}
-use Rattle.words.specs.Word.{pick}
-use Rattle.order.specs.Order.{sameW}
 use Rattle.rows.specs.Row.{allowed}
 use Rattle.sheet.specs.Rows.{rows, rowAt}
 use Rattle.sheet.specs.Sheet.{axis}
 use Rattle.sheet.specs.Places.{placeIn, allBelow}
 use Rattle.values.specs.Values.{setValue}
-use Rattle.ranges.specs.Range.{eachUpTo, analogInRange}
-use Rattle.registers.specs.declared.Alarms.{Alarms}
+use Rattle.pins.specs.Pins.{inputsInRange, signalsInRange}
 use Rattle.sampling.specs.declared.Readings.{Readings}
-use Rattle.sampling.specs.declared.Inputs.{Inputs}
-use Rattle.sampling.specs.declared.Signals.{Signals}
 use Rattle.sampling.specs.declared.Sample.{Sample}
 
 -- ---- "It sets parameters 51, 52, 55, 211, 212, 213, 220, 221 and the inputs"
@@ -51,28 +46,6 @@ readingsInRange s = settingsInRange (settings s)
 unfoldable pub settled : List ℤ → ℕ → List ℤ → List ℤ
 settled zs zero vs = vs
 settled zs (suc n) vs = setValue (settled zs n vs) (placeOf n) (getD zs n (pos 0))
-
--- ---- inputs and alarms, each 1 or 0
-abbrev pub isOn : ℤ → Bool
-isOn z = sameW z (pos 1)
-
-abbrev pub bitOf : ℤ → ℕ
-bitOf z = pick (isOn z) 1 0
-
-abbrev pub digitalOf : Inputs → List ℕ
-digitalOf i = bitOf (i .«digital_0» .v) ∷ bitOf (i .«digital_1» .v) ∷ []
-
-abbrev pub analogOf : Inputs → List ℤ
-analogOf i = i .«analog_0» ∷ i .«analog_1» ∷ i .«analog_2» ∷ []
-
-abbrev pub inputsInRange : Inputs → Bool
-inputsInRange i = eachUpTo (pos 1) (i .«digital_0» .v ∷ i .«digital_1» .v ∷ []) && analogInRange (analogOf i)
-
-abbrev pub alarmsOf : Signals → Alarms
-alarmsOf s = record { eal = isOn (s .eal .v); edv = isOn (s .edv .v); epo = isOn (s .epo .v) }
-
-abbrev pub signalsInRange : Signals → Bool
-signalsInRange s = eachUpTo (pos 1) (s .eal .v ∷ s .edv .v ∷ s .epo .v ∷ [])
 
 -- ---- "a sample field out of range" is answered 21
 unfoldable pub sampleInRange : Sample → Bool

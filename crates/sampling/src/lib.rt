@@ -1,13 +1,12 @@
 // A sample: what the board's inputs, switches and alarms are found to be, and what that sets.
 //
-// Each field is a 32-bit number, so that one out of range can be handed in: a word where it is looked
-// at by itself, an i32 where it is set in an array.
+// Each reading is a 32-bit number, so that one out of range can be handed in.
 ghost use mathlib.Core.Path.{_≡_};
 ghost use Rattle.sampling.specs.Laws.{Laws};
 ghost use Rattle.sampling.specs.Sample.{sampleInRange};
-use words::Word;
+use pins::Inputs;
+use pins::Signals;
 
-mod pins;
 mod settings;
 
 pub use settings::put_settings;
@@ -22,21 +21,6 @@ pub struct Readings {
     pub home: i32,
     pub supply_voltage: i32,
     pub temperature: i32,
-}
-
-pub struct Inputs {
-    pub digital_0: Word,
-    pub digital_1: Word,
-    pub analog_0: i32,
-    pub analog_1: i32,
-    pub analog_2: i32,
-}
-
-// The alarms, each 1 where it is on and 0 where it is off.
-pub struct Signals {
-    pub eal: Word,
-    pub edv: Word,
-    pub epo: Word,
 }
 
 pub struct Sample {

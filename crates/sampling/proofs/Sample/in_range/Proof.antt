@@ -3,7 +3,8 @@ use mathlib.Core.Path.{sym, _∙_}
 use borrow.Author.Needs.{needs}
 use borrow.Author.Tests.{not-true, not-false}
 use Rattle.words.proofs.Bools.{all-three, not-first, not-second}
-use Rattle.sampling.specs.Sample.{readingsInRange, inputsInRange, signalsInRange, sampleInRange}
+use Rattle.pins.specs.Pins.{inputsInRange, signalsInRange}
+use Rattle.sampling.specs.Sample.{readingsInRange, sampleInRange}
 use Rattle.sampling.proofs.Sample.in_range.Statement.{statement}
 use Rattle.sampling.proofs.Sample.in_range.Tie as tie
 

@@ -1,10 +1,10 @@
--- `sampling::Inputs::in_range` meets its contract. Assumes nothing.
+-- `pins::Inputs::in_range` meets its contract. Assumes nothing.
 use mir.Syntax.{w32}
 use mir.ValLaws.{toZ-ofZ}
 use borrow.Author.Needs.{needs}
 use borrow.Author.Tests.{not-true, not-false}
-use Rattle.sampling.proofs.Inputs.in_range.Statement.{statement}
-use Rattle.sampling.proofs.Inputs.in_range.Tie as tie
+use Rattle.pins.proofs.Inputs.in_range.Statement.{statement}
+use Rattle.pins.proofs.Inputs.in_range.Tie as tie
 
 returns : tie.Need-returns
 returns c =

@@ -23,16 +23,17 @@ use Rattle.registers.specs.Registers as reg
 use Rattle.registers.specs.Laws as reg-laws
 use Rattle.registers.proofs.Kept as registers
 use Rattle.stack.specs.Stack.{stack, emptied}
-use Rattle.sampling.specs.Sample.{sampleInRange, alarmsOf}
+use Rattle.pins.specs.Pins.{alarmsOf}
+use Rattle.sampling.specs.Sample.{sampleInRange}
 use Rattle.sampling.specs.declared.Sample.{Sample}
 use Rattle.sampling.proofs.Rules as sampling
 use Rattle.board.specs.Registers.{powered, withSample, withTick}
 use Rattle.board.specs.Range.{addressesInRange, pinsInRange, registersInRange}
 use Rattle.board.specs.Events.{Outcome, outcome, statusOf, poweredUp, sampled, ticked}
-use Rattle.board.specs.Laws.{OneOutcome, Laws}
+use Rattle.promises.specs.Laws.{OneOutcome, Laws}
 use Rattle.board.specs.declared.Registers.{Registers}
 use Rattle.board.specs.declared.Answer.{Answer}
 use Rattle.board.specs.declared.Answer.the-variants.{Done, Length, Field, HandedIn}
 
 -- ---- the seven tests that make up the range of registers
 pub record Parts (r : Registers) : Type 0 where

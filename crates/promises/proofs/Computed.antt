@@ -11,10 +11,10 @@ use Rattle.ranges.specs.Range.{entriesInRange, bitsInRange, eachUpTo}
 use Rattle.registers.specs.Range.{coreInRange}
 use Rattle.registers.specs.Registers as reg
 use Rattle.sampling.specs.Sample.{settingsInRange, settled, sampleInRange}
 use Rattle.board.specs.Registers.{unpowered, powered}
 use Rattle.board.specs.Range.{registersInRange}
 use Rattle.board.specs.Events.{poweredUp, sampled, ticked}
-use Rattle.board.specs.Examples.{Examples, begun}
+use Rattle.promises.specs.Examples.{Examples, begun}
 
 pub examples : Examples
 unfolding wordOf allowed taken rows parameters axis globals rweRows rwRows rRows written cellAt putCell valuesInRange poweredAt poweredValues defaultCells coreInRange entriesInRange bitsInRange eachUpTo reg.ticked reg.raised settingsInRange settled sampleInRange powered registersInRange poweredUp sampled ticked begun unpowered

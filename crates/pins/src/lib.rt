@@ -1,6 +1,9 @@
-// The inputs and the alarms.
+// The inputs and alarms that a sample carries.
+//
+// Each field is a 32-bit number, so that one out of range can be handed in: a word where it is looked
+// at by itself, an i32 where it is set in an array.
 ghost use mathlib.Core.Path.{_≡_};
-ghost use Rattle.sampling.specs.Sample.{
+ghost use Rattle.pins.specs.Pins.{
   isOn,
   bitOf,
   inputsInRange,
@@ -9,10 +12,23 @@ ghost use Rattle.sampling.specs.Sample.{
   analogOf,
   alarmsOf,
 };
-use crate::Inputs;
-use crate::Signals;
 use registers::Alarms;
 use words::Word;
+
+pub struct Inputs {
+    pub digital_0: Word,
+    pub digital_1: Word,
+    pub analog_0: i32,
+    pub analog_1: i32,
+    pub analog_2: i32,
+}
+
+// The alarms, each 1 where it is on and 0 where it is off.
+pub struct Signals {
+    pub eal: Word,
+    pub edv: Word,
+    pub epo: Word,
+}
 
 fn is_on(w: Word) -> bool
     ensures { λ r. ⌜ r ≡ isOn (w .v) ⌝ }

@@ -1,7 +1,7 @@
--- `sampling::Signals::alarms` meets its contract. Assumes nothing.
+-- `pins::Signals::alarms` meets its contract. Assumes nothing.
 use borrow.Author.Needs.{needs}
-use Rattle.sampling.proofs.Signals.alarms.Statement.{statement}
-use Rattle.sampling.proofs.Signals.alarms.Tie as tie
+use Rattle.pins.proofs.Signals.alarms.Statement.{statement}
+use Rattle.pins.proofs.Signals.alarms.Tie as tie
 
 returns : tie.Need-returns
 returns c = simp (c .before .before .is-on .ensures, c .before .is-on2 .ensures, c .is-on3 .ensures)

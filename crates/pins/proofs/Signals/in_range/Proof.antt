@@ -1,9 +1,9 @@
--- `sampling::Signals::in_range` meets its contract. Assumes nothing.
+-- `pins::Signals::in_range` meets its contract. Assumes nothing.
 use mir.Syntax.{w32}
 use mir.ValLaws.{toZ-ofZ}
 use borrow.Author.Needs.{needs}
-use Rattle.sampling.proofs.Signals.in_range.Statement.{statement}
-use Rattle.sampling.proofs.Signals.in_range.Tie as tie
+use Rattle.pins.proofs.Signals.in_range.Statement.{statement}
+use Rattle.pins.proofs.Signals.in_range.Tie as tie
 
 returns : tie.Need-returns
 returns c =

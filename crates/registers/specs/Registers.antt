@@ -1,18 +1,25 @@
 -- The scalar registers, and what power-up, a tick and a sample's alarms make of them: "Registers: accumulator, X, last
 -- comparison, flags ETO EAL EDV EPO, program address 0 to 1,024, running or not, armed wait, download mode and write address,
 -- motion order (stopped, velocity, position) .. A dropped wait and freed stack entries become 0; what no rule names stays."
-use Prim.Native.Nat.{ℕ, _-_}
+use Prim.Native.Nat.{ℕ, _+_, _-_}
 use mathlib.Core.Bool.{Bool, false, _&&_}
 use lib.Dec.{ltb}
 use lib.IntN.{pos}
 use Rattle.words.specs.Word.{pick, word}
+use Rattle.words.specs.declared.Word.{Word}
+use Rattle.order.specs.declared.Compared.{Compared}
 use Rattle.order.specs.declared.Compared.the-variants.{Equal}
 use Rattle.registers.specs.declared.Flags.{Flags}
 use Rattle.registers.specs.declared.Alarms.{Alarms}
 use Rattle.registers.specs.declared.Wait.{Wait}
+use Rattle.registers.specs.declared.Motion.{Motion}
 use Rattle.registers.specs.declared.Download.{Download}
 use Rattle.registers.specs.declared.Core.{Core}
 use Rattle.registers.specs.declared.Order.the-variants.{Stopped}
+
+-- "A dropped wait and freed stack entries become 0"
+abbrev pub droppedWait : Wait
+droppedWait = record { armed = false; count = 0; timed = false }
 
 -- ---- one part changed, and nothing else
 abbrev pub withWait : Wait → Core → Core
@@ -43,6 +50,102 @@ withFlags f c =
       depth = c .depth;
     }
 
+abbrev pub withNumbers : Word → Word → Core → Core
+withNumbers a x c =
+    record {
+      accumulator = a;
+      x = x;
+      last = c .last;
+      flags = c .flags;
+      address = c .address;
+      running = c .running;
+      wait = c .wait;
+      motion = c .motion;
+      depth = c .depth;
+    }
+
+abbrev pub withLast : Compared → Core → Core
+withLast l c =
+    record {
+      accumulator = c .accumulator;
+      x = c .x;
+      last = l;
+      flags = c .flags;
+      address = c .address;
+      running = c .running;
+      wait = c .wait;
+      motion = c .motion;
+      depth = c .depth;
+    }
+
+abbrev pub withMotion : Motion → Core → Core
+withMotion m c =
+    record {
+      accumulator = c .accumulator;
+      x = c .x;
+      last = c .last;
+      flags = c .flags;
+      address = c .address;
+      running = c .running;
+      wait = c .wait;
+      motion = m;
+      depth = c .depth;
+    }
+
+abbrev pub withDepth : ℕ → Core → Core
+withDepth d c =
+    record {
+      accumulator = c .accumulator;
+      x = c .x;
+      last = c .last;
+      flags = c .flags;
+      address = c .address;
+      running = c .running;
+      wait = c .wait;
+      motion = c .motion;
+      depth = d;
+    }
+
+abbrev pub withRunning : Bool → Core → Core
+withRunning b c =
+    record {
+      accumulator = c .accumulator;
+      x = c .x;
+      last = c .last;
+      flags = c .flags;
+      address = c .address;
+      running = b;
+      wait = c .wait;
+      motion = c .motion;
+      depth = c .depth;
+    }
+
+-- at another address, with no wait: "any step that is not a WAIT" drops it
+abbrev pub moved : ℕ → Core → Core
+moved a c =
+    record {
+      accumulator = c .accumulator;
+      x = c .x;
+      last = c .last;
+      flags = c .flags;
+      address = a;
+      running = c .running;
+      wait = droppedWait;
+      motion = c .motion;
+      depth = c .depth;
+    }
+
+-- "raises the address by one"; there is none above 1,024
+abbrev pub nextAddress : ℕ → ℕ
+nextAddress a = pick (ltb a 1024) (a + 1) a
+
+abbrev pub next : Core → Core
+next c = moved (nextAddress (c .address)) c
+
+-- not running, with no wait
+abbrev pub stopped : Core → Core
+stopped c = withRunning false (withWait droppedWait c)
+
 -- ---- a sample
 -- "an alarm that is on sets EAL, EDV or EPO, one that is off clears nothing"
 abbrev pub raisedFlag : Bool → ℕ → ℕ
@@ -58,10 +161,6 @@ raised a f =
     }
 
 -- ---- a tick
--- "A dropped wait and freed stack entries become 0"
-abbrev pub droppedWait : Wait
-droppedWait = record { armed = false; count = 0; timed = false }
-
 abbrev pub counted : ℕ → Wait → Wait
 counted n w = record { armed = w .armed; count = n; timed = w .timed }
 

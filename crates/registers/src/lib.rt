@@ -8,6 +8,15 @@ ghost use Rattle.registers.specs.Range.{flagsInRange, coreInRange, downl
 ghost use Rattle.registers.specs.Registers.{
   withWait,
   withFlags,
+  withNumbers,
+  withLast,
+  withMotion,
+  withDepth,
+  withRunning,
+  moved,
+  nextAddress,
+  next,
+  stopped,
   raisedFlag,
   raised,
   droppedWait,
@@ -69,6 +78,13 @@ pub struct Core {
     pub wait: Wait,
     pub motion: Motion,
     pub depth: u8,
+}
+
+// The address after one; there is none above 1024.
+pub fn next_address(address: u16) -> u16
+    ensures { λ r. ⌜ r ≡ nextAddress address ⌝ }
+{
+    if address < 1024 { address + 1 } else { address }
 }
 
 // A flag after its alarm.
@@ -200,6 +216,97 @@ impl Core {
     {
         self.flags = self.flags.raised(alarms);
         self
+    }
+
+    // At another address, with no wait.
+    pub fn moved(mut self, address: u16) -> Self
+        ensures { λ r. ⌜ r ≡ moved address self ⌝ }
+    {
+        self.address = address;
+        self.wait = Wait::dropped();
+        self
+    }
+
+    // At the next address, with no wait.
+    pub fn next(self) -> Self
+        ensures { λ r. ⌜ r ≡ next self ⌝ }
+    {
+        let address = next_address(self.address);
+        self.moved(address)
+    }
+
+    // Not running, with no wait.
+    pub fn stopped(mut self) -> Self
+        ensures { λ r. ⌜ r ≡ stopped self ⌝ }
+    {
+        self.running = false;
+        self.wait = Wait::dropped();
+        self
+    }
+
+    pub fn with_running(mut self, running: bool) -> Self
+        ensures { λ r. ⌜ r ≡ withRunning running self ⌝ }
+    {
+        self.running = running;
+        self
+    }
+
+    pub fn with_wait(mut self, wait: Wait) -> Self
+        ensures { λ r. ⌜ r ≡ withWait wait self ⌝ }
+    {
+        self.wait = wait;
+        self
+    }
+
+    pub fn with_depth(mut self, depth: u8) -> Self
+        ensures { λ r. ⌜ r ≡ withDepth depth self ⌝ }
+    {
+        self.depth = depth;
+        self
+    }
+
+    pub fn with_numbers(mut self, accumulator: Word, x: Word) -> Self
+        ensures { λ r. ⌜ r ≡ withNumbers accumulator x self ⌝ }
+    {
+        self.accumulator = accumulator;
+        self.x = x;
+        self
+    }
+
+    pub fn with_flags(mut self, flags: Flags) -> Self
+        ensures { λ r. ⌜ r ≡ withFlags flags self ⌝ }
+    {
+        self.flags = flags;
+        self
+    }
+
+    pub fn with_motion(mut self, motion: Motion) -> Self
+        ensures { λ r. ⌜ r ≡ withMotion motion self ⌝ }
+    {
+        self.motion = motion;
+        self
+    }
+
+    // An enum is not written in place, so the core is made anew.
+    pub fn with_last(self, last: Compared) -> Self
+        ensures { λ r. ⌜ r ≡ withLast last self ⌝ }
+    {
+        let accumulator = self.accumulator;
+        let x = self.x;
+        let flags = self.flags;
+        let wait = self.wait;
+        let motion = self.motion;
+        Core {
+            accumulator: accumulator,
+            x: x,
+            last: last,
+            flags: flags,
+            address: self.address,
+            running: self.running,
+            wait: wait,
+            motion: motion,
+            depth: self.depth,
+        }
     }
 }
 

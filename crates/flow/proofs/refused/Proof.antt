@@ -1,0 +1,10 @@
+-- `flow::refused` meets its contract. Assumes nothing.
+use borrow.Author.Needs.{needs}
+use Rattle.flow.proofs.refused.Statement.{statement}
+use Rattle.flow.proofs.refused.Tie as tie
+
+returns : tie.Need-returns
+returns c = simp (c .next .ensures)
+
+pub refused-spec : {M : Type 1} → statement M
+refused-spec = tie.close (tie.spec (λ c κs. search needs) returns)

@@ -1,0 +1,10 @@
+-- `judge::numbers::calc` meets its contract. Assumes nothing.
+use borrow.Author.Needs.{needs}
+use Rattle.judge.proofs.numbers.calc.Statement.{statement}
+use Rattle.judge.proofs.numbers.calc.Tie as tie
+
+returns : tie.Need-returns
+returns c = simp (c .in-order .ensures, c .before .calculable .ensures)
+
+pub calc-spec : {M : Type 1} → statement M
+calc-spec = tie.close (tie.spec (λ c κs. search needs) (λ c κs. search needs) returns)

@@ -1,0 +1,32 @@
+// Outputs and inputs: banks 0 to 2 and their ports.
+ghost use mathlib.Core.Path.{_≡_};
+ghost use Rattle.judge.specs.Judge as spec;
+use crate::in_order;
+use status::Status;
+use wire::Command;
+use words::Word;
+
+pub fn sio(c: Command) -> Status
+    ensures { λ r. ⌜ r ≡ spec.sio c ⌝ }
+{
+    let bit = order::within(c.value, Word { v: 0 }, Word { v: 1 });
+    in_order(c.motor == 2, c.kind <= 3, bit)
+}
+
+// The last port of a bank.
+fn last_port(bank: u8) -> u8
+    ensures { λ r. ⌜ r ≡ spec.lastPort bank ⌝ }
+{
+    match bank {
+        0 => 1,
+        1 => 2,
+        _ => 3,
+    }
+}
+
+pub fn gio(c: Command) -> Status
+    ensures { λ r. ⌜ r ≡ spec.gio c ⌝ }
+{
+    let bank = c.motor;
+    in_order(bank <= 2, c.kind <= last_port(bank), true)
+}

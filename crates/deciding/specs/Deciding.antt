@@ -1,0 +1,44 @@
+-- What a command of direct mode that changes something does, by its number, once the judge has let it through.
+use Prim.Native.Nat.{ℕ}
+use mathlib.Core.List.{List}
+use lib.Dec.{eqb}
+use lib.IntN.{ℤ, pos}
+use Rattle.words.specs.Word.{pick}
+use Rattle.wire.specs.declared.Command.{Command}
+use Rattle.order.specs.Order.{sameW, comparedW}
+use Rattle.settings.specs.Settings.{axisPlace, bankPlace}
+use Rattle.registers.specs.declared.Core.{Core}
+use Rattle.effects.specs.Effects.{Work, applied}
+use Rattle.effects.specs.declared.Effect.{Effect}
+use Rattle.effects.specs.declared.Effect.the-variants.{Restore, Output, Last}
+use Rattle.motion.specs.Motion.{parameter, rightWithin, leftWithin, stop, moveTo}
+use Rattle.assigning.specs.Assigning.{assign, take, keep}
+use Rattle.numbers.specs.Numbers.{calc, calcx, clear}
+
+abbrev pub bitOf : ℤ → ℕ
+bitOf z = pick (sameW z (pos 1)) 1 0
+
+-- 1 ROR, 2 ROL, 3 MST, 4 MVP, 5 SAP, 7 STAP, 8 RSAP, 9 SGP, 11 STGP, 12 RSGP, 14 SIO, 19 CALC, 20 COMP, 33 CALCX, 34 AAP, 35 AGP
+-- and 36 CLE
+unfoldable pub decided : Command → Core → List ℤ → Effect
+decided c core values =
+    pick (eqb (c .number) 1) (rightWithin (parameter 43 values .v) (c .value .v))
+    (pick (eqb (c .number) 2) (leftWithin (parameter 43 values .v) (c .value .v))
+    (pick (eqb (c .number) 3) stop
+    (pick (eqb (c .number) 4) (moveTo (c .kind) (c .value) values)
+    (pick (eqb (c .number) 5) (assign (axisPlace (c .kind)) (c .value) values)
+    (pick (eqb (c .number) 7) (keep (axisPlace (c .kind)) values)
+    (pick (eqb (c .number) 8) (Restore (axisPlace (c .kind)))
+    (pick (eqb (c .number) 9) (assign (bankPlace (c .motor) (c .kind)) (c .value) values)
+    (pick (eqb (c .number) 11) (keep (bankPlace (c .motor) (c .kind)) values)
+    (pick (eqb (c .number) 12) (Restore (bankPlace (c .motor) (c .kind)))
+    (pick (eqb (c .number) 14) (Output (c .kind) (bitOf (c .value .v)))
+    (pick (eqb (c .number) 19) (calc (c .kind) (c .value) (core .accumulator) (core .x))
+    (pick (eqb (c .number) 20) (Last (comparedW (core .accumulator .v) (c .value .v)))
+    (pick (eqb (c .number) 33) (calcx (c .kind) (core .accumulator) (core .x))
+    (pick (eqb (c .number) 34) (take (axisPlace (c .kind)) (core .accumulator) values)
+    (pick (eqb (c .number) 35) (take (bankPlace (c .motor) (c .kind)) (core .accumulator) values)
+    (clear (c .kind) (core .flags)))))))))))))))))
+
+unfoldable pub worked : Command → Core → List ℤ → List ℕ → List ℕ → Work
+worked c core values outputs store = applied (decided c core values) core values outputs store

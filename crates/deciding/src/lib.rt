@@ -1,0 +1,67 @@
+// What a command of direct mode that changes something does, decided by the command, the scalars and
+// the working values, once the judge has let it through; and done.
+ghost use mathlib.Core.Path.{_≡_};
+ghost use Rattle.effects.specs.Effects.{work};
+ghost use Rattle.deciding.specs.Deciding.{bitOf, decided, worked};
+use effects::Effect;
+use effects::Worked;
+use registers::Core;
+use wire::Command;
+use words::Word;
+
+// The bit that a value is.
+fn bit_of(value: Word) -> u8
+    ensures { λ r. ⌜ r ≡ bitOf (value .v) ⌝ }
+{
+    if order::equals(value, Word { v: 1 }) {
+        1
+    } else {
+        0
+    }
+}
+
+// The effect of a command.
+fn decide(c: Command, core: Core, values: &[i32; 103]) -> Effect
+    ensures { λ r. ⌜ r ≡ decided c core (now (values .entry)) ⌝ }
+{
+    let number = c.number;
+    let kind = c.kind;
+    let bank = c.motor;
+    let value = c.value;
+    let accumulator = core.accumulator;
+    let x = core.x;
+    let flags = core.flags;
+    match number {
+        1 => motion::right(value, values),
+        2 => motion::left(value, values),
+        3 => motion::stop(),
+        4 => motion::move_to(kind, value, values),
+        5 => assigning::assign(places::axis_place(kind), value, values),
+        7 => assigning::keep(places::axis_place(kind), values),
+        8 => Effect::Restore(places::axis_place(kind)),
+        9 => assigning::assign(settings::bank_place(bank, kind), value, values),
+        11 => assigning::keep(settings::bank_place(bank, kind), values),
+        12 => Effect::Restore(settings::bank_place(bank, kind)),
+        14 => Effect::Output(kind, bit_of(value)),
+        19 => numbers::calc(kind, value, accumulator, x),
+        20 => Effect::Last(order::compare(accumulator, value)),
+        33 => numbers::calcx(kind, accumulator, x),
+        34 => assigning::take(places::axis_place(kind), accumulator, values),
+        35 => assigning::take(settings::bank_place(bank, kind), accumulator, values),
+        _ => numbers::clear(kind, flags),
+    }
+}
+
+// Decides, and carries out.
+pub fn work(
+    c: Command,
+    core: Core,
+    values: &mut [i32; 103],
+    outputs: &mut [u8; 4],
+    store: &mut [u8],
+) -> Worked
+    ensures { λ r. ⌜ work r (now (values .exit)) (now (outputs .exit)) (now (store .exit)) ≡ worked c core (now (values .entry)) (now (outputs .entry)) (now (store .entry)) ⌝ }
+{
+    let effect = decide(c, core, values);
+    effects::apply(core, values, outputs, store, effect)
+}

@@ -1,0 +1,14 @@
+-- `numbers::clear` meets its contract. Assumes nothing.
+use Rattle.numbers.specs.Numbers.{clear}
+use borrow.Author.Needs.{needs}
+use Rattle.numbers.proofs.clear.Statement.{statement}
+use Rattle.numbers.proofs.clear.Tie as tie
+
+returns : tie.Need-returns
+unfolding clear
+returns c = simp (c .cleared4 .ensures, c .before .cleared3 .ensures, c .before .before .cleared2 .ensures, c .before .before .before .cleared .ensures)
+
+pub clear-spec : {M : Type 1} → statement M
+clear-spec =
+    tie.close
+    (tie.spec (λ c κs. search needs) (λ c κs. search needs) (λ c κs. search needs) (λ c κs. search needs) returns)

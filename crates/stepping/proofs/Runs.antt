@@ -1,0 +1,22 @@
+-- A run goes one step at a time. Assumes nothing.
+use Prim.Native.Nat.{ℕ, zero, suc, _-_, _<_}
+use native.Mathlib.Omega.{arith}
+use mathlib.Core.Path.{_≡_, refl}
+use mathlib.Core.Bool.{true, false}
+use mathlib.Core.List.{List}
+use Rattle.stepping.specs.Step.{Pins, Progress, goesOn, advanced, run}
+
+module _ (program : List ℕ) (p : Pins) where
+  pub run-zero : (n : ℕ) (x : Progress) → n ≡ 0 → run program p n x ≡ x
+  unfolding run
+  run-zero n x e = rw e
+
+  pub run-ends : (n : ℕ) (x : Progress) → goesOn x ≡ false → run program p n x ≡ x
+  unfolding run
+  run-ends zero x e = refl
+  run-ends (suc n) x e = simp e
+
+  pub run-onward : (n : ℕ) (x : Progress) → 0 < n → goesOn x ≡ true → run program p n x ≡ run program p (n - 1) (advanced program p x)
+  unfolding run
+  run-onward zero x h e = absurd (omega arith)
+  run-onward (suc n) x h e = let m : suc n - 1 ≡ n = omega arith in simp (e, m)

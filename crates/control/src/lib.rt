@@ -1,0 +1,186 @@
+// The control commands, which a program does not have: their refusals, and what 128, 129, 131, 132,
+// 133, 134 and 135 do. 130 is a step, 137 and 255 are defaults and power-up; they stand above.
+ghost use mathlib.Core.Path.{_≡_};
+ghost use Prim.Native.Nat.{_<_};
+ghost use Rattle.control.specs.Control as spec;
+use registers::Core;
+use registers::Download;
+use status::Status;
+use wire::Command;
+use words::Word;
+
+// Not available, then type, then value, then the lock.
+fn in_order(available: bool, kind: bool, value: bool, unlocked: bool) -> Status
+    ensures { λ r. ⌜ r ≡ spec.inOrder available kind value unlocked ⌝ }
+{
+    if available {
+        if kind {
+            if value {
+                if unlocked {
+                    Status::Done
+                } else {
+                    Status::Locked
+                }
+            } else {
+                Status::Value
+            }
+        } else {
+            Status::Kind
+        }
+    } else {
+        Status::Unavailable
+    }
+}
+
+// Whether a value is the key to 137 and 255.
+fn is_key(value: Word) -> bool
+    ensures { λ r. ⌜ r ≡ spec.isKey (value .v) ⌝ }
+{
+    order::equals(value, Word { v: 1234 })
+}
+
+// Where 129 begins can be seen in its value: type 0 has none.
+fn begins(kind: u8, value: Word) -> bool
+    ensures { λ r. ⌜ r ≡ spec.begins kind (value .v) ⌝ }
+{
+    if kind == 0 {
+        true
+    } else {
+        jumping::is_address(value)
+    }
+}
+
+// The status of a control command.
+pub fn judge(c: Command, running: bool, downloading: bool, locked: bool) -> Status
+    ensures { λ r. ⌜ r ≡ spec.judged c running downloading locked ⌝ }
+{
+    let number = c.number;
+    let kind = c.kind;
+    let value = c.value;
+    match number {
+        128 => Status::Done,
+        129 => in_order(!downloading, kind <= 1, begins(kind, value), true),
+        130 => in_order(!running & !downloading, true, true, true),
+        131 => Status::Done,
+        132 => in_order(!running, true, jumping::is_address(value), !locked),
+        133 => Status::Done,
+        134 => in_order(true, kind <= 1, jumping::is_address(value), true),
+        135 => Status::Done,
+        137 => in_order(!running, true, is_key(value), !locked),
+        255 => in_order(true, true, is_key(value), true),
+        _ => Status::Unknown,
+    }
+}
+
+// What a control command leaves.
+pub struct Controlled {
+    pub core: Core,
+    pub download: Download,
+}
+
+// 129: from the present address, or from one with an empty stack.
+fn run(kind: u8, value: Word, core: Core, entries: &mut [u16; 8]) -> Core
+    ensures { λ r. ⌜ spec.placed r (now (entries .exit)) ≡ spec.begun kind (value .v) core (now (entries .entry)) ⌝ }
+{
+    if kind == 0 {
+        return core.with_running(true);
+    }
+    let there = afresh(core, entries, jumping::address_of(value));
+    there.with_running(true)
+}
+
+// At an address with an empty stack and no wait.
+fn afresh(core: Core, entries: &mut [u16; 8], address: u16) -> Core
+    ensures { λ r. ⌜ spec.placed r (now (entries .exit)) ≡ spec.afresh address core ⌝ }
+{
+    let stack = stack::empty();
+    let left = stack.entries;
+    *entries = left;
+    let there = core.moved(address);
+    there.with_depth(stack.depth)
+}
+
+// 131: stopped, at address 0 with an empty stack.
+fn reset(core: Core, entries: &mut [u16; 8]) -> Core
+    ensures { λ r. ⌜ spec.placed r (now (entries .exit)) ≡ spec.reset core ⌝ }
+{
+    let there = afresh(core, entries, 0);
+    there.with_running(false)
+}
+
+// Download mode ended, the write address kept.
+fn ended(download: Download) -> Download
+    ensures { λ r. ⌜ r ≡ spec.ended download ⌝ }
+{
+    Download {
+        on: false,
+        address: download.address,
+    }
+}
+
+// 128, 129, 131, 132 and 133; another command changes nothing.
+pub fn control(c: Command, core: Core, download: Download, entries: &mut [u16; 8]) -> Controlled
+    ensures { λ r. ⌜ spec.outcome r (now (entries .exit)) ≡ spec.controlled c core download (now (entries .entry)) ⌝ }
+{
+    let number = c.number;
+    let kind = c.kind;
+    let value = c.value;
+    match number {
+        128 => Controlled {
+            core: core.stopped(),
+            download: download,
+        },
+        129 => Controlled {
+            core: run(kind, value, core, entries),
+            download: download,
+        },
+        131 => Controlled {
+            core: reset(core, entries),
+            download: ended(download),
+        },
+        132 => Controlled {
+            core: core.with_wait(registers::Wait::dropped()),
+            download: Download {
+                on: true,
+                address: jumping::address_of(value),
+            },
+        },
+        133 => Controlled {
+            core: core,
+            download: ended(download),
+        },
+        _ => Controlled {
+            core: core,
+            download: download,
+        },
+    }
+}
+
+fn wide(b: u8) -> u32
+    ensures { λ r. ⌜ (r ≡ b) × (r < 256) ⌝ }
+{
+    b as u32
+}
+
+// 134: a record of the lent program store, its value or its three bytes.
+fn show(kind: u8, value: Word, program: &[u8]) -> Word
+    ensures { λ r. ⌜ r ≡ spec.shown kind (value .v) (now (program .entry)) ⌝ }
+{
+    let record = store::record_at(program, jumping::address_of(value) as usize);
+    if kind == 0 {
+        return record.value;
+    }
+    words::of_bits(wide(record.number) * 65536 + wide(record.kind) * 256 + wide(record.motor))
+}
+
+// The value that a control command answers: what 134 and 135 read, else the value sent.
+pub fn answer(c: Command, running: bool, program: &[u8]) -> Word
+    ensures { λ r. ⌜ r ≡ spec.answer c running (now (program .entry)) ⌝ }
+{
+    let number = c.number;
+    match number {
+        134 => show(c.kind, c.value, program),
+        135 => reading::bit(running),
+        _ => c.value,
+    }
+}

@@ -1,0 +1,2 @@
+pub mod Resetting
+pub mod Laws

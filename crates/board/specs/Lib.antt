@@ -1,3 +1,4 @@
 pub mod Registers
 pub mod Range
 pub mod Events
+pub mod Step

@@ -5,9 +5,11 @@
 ghost use mathlib.Core.Path.{_≡_};
 ghost use Rattle.board.specs.Events.{outcomeOf, poweredUp, sampled, ticked};
 ghost use Rattle.board.specs.Registers.{unpowered, powered, withSample, withTick};
+ghost use Rattle.board.specs.Step.{turned, stepOnce};
 use registers::Core;
 use registers::Download;
 use sampling::Sample;
+use status::Status;
 use words::Word;
 
 mod range;
@@ -38,6 +40,12 @@ pub struct After {
     pub answer: Answer,
 }
 
+// What a step leaves, and its status.
+pub struct Turned {
+    pub registers: Registers,
+    pub status: Status,
+}
+
 impl Registers {
     // Before the first power-up: all 0. Parameters are out of range then, so every event but power-up
     // is refused.
@@ -57,7 +65,7 @@ impl Registers {
 
     // What power-up leaves. Global 77, whether the program runs, is the last before the user
     // variables.
-    fn powered(store: &[u8]) -> Self
+    pub fn powered(store: &[u8]) -> Self
         ensures { λ r. ⌜ r ≡ powered (now (store .entry)) ⌝ }
     {
         let values = values::powered(store);
@@ -102,6 +110,38 @@ impl Registers {
         let later = core.ticked();
         self.core = later;
         self
+    }
+
+    // One step of the program: the registers taken apart, the step made, and put together.
+    pub fn step(mut self, program: &[u8], store: &mut [u8]) -> Turned
+        ensures { λ r. ⌜ turned r (now (store .exit)) ≡ stepOnce (now (program .entry)) self (now (store .entry)) ⌝ }
+    {
+        let mut entries = self.entries;
+        let mut values = self.values;
+        let mut outputs = self.outputs;
+        let digital = self.digital;
+        let analog = self.analog;
+        let core = self.core;
+        let stepped = stepping::step(
+            core,
+            &mut entries,
+            &mut values,
+            &mut outputs,
+            &digital,
+            &analog,
+            store,
+            program,
+        );
+        let there = stepped.core;
+        let status = stepped.status;
+        self.core = there;
+        self.entries = entries;
+        self.values = values;
+        self.outputs = outputs;
+        Turned {
+            registers: self,
+            status: status,
+        }
     }
 
     // Power-up, lent the parameter store.

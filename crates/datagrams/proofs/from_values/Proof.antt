@@ -1,0 +1,12 @@
+-- `datagrams::from_values` meets its contract. Assumes nothing.
+use Rattle.datagrams.specs.Datagram.{addresses}
+use borrow.Author.Needs.{needs}
+use Rattle.datagrams.proofs.from_values.Statement.{statement}
+use Rattle.datagrams.proofs.from_values.Tie as tie
+
+returns : tie.Need-returns
+unfolding addresses
+returns c = simp (c .byte-of2 .ensures, c .before .byte-of .ensures)
+
+pub from-values-spec : {M : Type 1} → statement M
+from-values-spec = tie.close (tie.spec (λ c κs. search needs) (λ c κs. search needs) returns)

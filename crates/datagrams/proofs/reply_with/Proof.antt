@@ -1,0 +1,12 @@
+-- `datagrams::reply_with` meets its contract. Assumes nothing.
+use Rattle.datagrams.specs.Datagram.{replied}
+use borrow.Author.Needs.{needs}
+use Rattle.datagrams.proofs.reply_with.Statement.{statement}
+use Rattle.datagrams.proofs.reply_with.Tie as tie
+
+returns : tie.Need-returns
+unfolding replied
+returns c = simp (← c .before .before .before .number .ensures) (c .before .before .put-reply .ensures .left)
+
+pub reply-with-spec : {M : Type 1} → statement M
+reply-with-spec = tie.close (tie.spec (λ c κs. search needs) (λ c κs. search needs) (λ c. search needs) returns)

@@ -1,0 +1,106 @@
+-- "Order: 20, 23, length, address, 1, ..": the refusals before a command, and the reply. "no reply" leaves the reply buffer too.
+use Prim.Native.Nat.{ℕ}
+use mathlib.Core.Bool.{Bool, _&&_}
+use mathlib.Core.List.{List}
+use lib.Dec.{eqb}
+use lib.IntN.{ℤ, pos}
+use lib.ListN.{length}
+use Rattle.words.specs.Word.{pick, word}
+use Rattle.words.specs.Bytes.{fourOf}
+use Rattle.words.specs.declared.Word.{Word}
+use Rattle.wire.specs.Frame.{replyFrame}
+use Rattle.wire.specs.declared.Command.{Command}
+use Rattle.values.specs.Values.{valueAt}
+use Rattle.settings.specs.Settings.{bankPlace}
+use Rattle.status.specs.Status.{numberOf}
+use Rattle.status.specs.declared.Status.{Status}
+use Rattle.status.specs.declared.Status.the-variants.{Checksum}
+use Rattle.serial.specs.Serial.{takenOf}
+use Rattle.serial.specs.declared.Taken.{Taken}
+use Rattle.serial.specs.declared.Taken.the-variants.{NotOurs, Damaged, Whole}
+use Rattle.board.specs.Range.{registersInRange}
+use Rattle.board.specs.declared.Registers.{Registers}
+use Rattle.commands.specs.Obey.{Outcome, obeyed}
+use Rattle.datagrams.specs.declared.Addresses.{Addresses}
+use Rattle.datagrams.specs.declared.Answer.{Answer}
+use Rattle.datagrams.specs.declared.Answer.the-variants.{Nothing, Length, HandedIn, Replied}
+use Rattle.datagrams.specs.declared.Answered.{Answered}
+
+-- 01's number of an answer: the reply's status, and 0 where there is none by length or address
+abbrev pub answerStatus : Answer → ℕ
+answerStatus Nothing = 0
+answerStatus Length = 20
+answerStatus HandedIn = 23
+answerStatus (Replied s) = numberOf s
+
+-- registers and lent memory
+pub record Board : Type 0 where
+  pub registers : Registers
+  pub program : List ℕ
+  pub store : List ℕ
+  pub reply : List ℕ
+
+abbrev pub board : Registers → List ℕ → List ℕ → List ℕ → Board
+board r p m b = record { registers = r; program = p; store = m; reply = b }
+
+-- what a datagram leaves, and the number answered
+pub record After : Type 0 where
+  pub board : Board
+  pub status : ℕ
+
+abbrev pub left : Answered → List ℕ → List ℕ → List ℕ → After
+left a p m b = record { board = board (a .registers) p m b; status = answerStatus (a .answer) }
+
+-- nothing changes
+abbrev pub unchanged : ℕ → Board → After
+unchanged n x = record { board = x; status = n }
+
+-- "reply address (global 76), module address (global 66)"
+unfoldable pub byteOf : List ℤ → ℕ → ℕ
+byteOf values n = fourOf (valueAt values (bankPlace 0 n) .v) .b0
+
+unfoldable pub addresses : List ℤ → Addresses
+addresses values = record { «reply_address» = byteOf values 76; «module_address» = byteOf values 66 }
+
+-- the nine bytes, in a buffer that has nine
+abbrev pub frameOf : Addresses → Status → ℕ → Word → List ℕ
+frameOf a s n w =
+    replyFrame (record { «reply_address» = a .«reply_address»; «module_address» = a .«module_address»; status = numberOf s; command = n; value = w })
+
+unfoldable pub replied : List ℕ → Addresses → Status → ℕ → Word → List ℕ
+replied b a s n w = pick (eqb (length b) 9) (frameOf a s n w) b
+
+-- "Both addresses are those before the command."
+abbrev pub afterObeying : Outcome → Command → Board → After
+afterObeying o c x =
+    record {
+      board =
+          board (o .registers) (o .program) (o .store)
+          (replied (x .reply) (addresses (x .registers .values)) (o .status) (c .number) (o .value));
+      status = numberOf (o .status);
+    }
+
+unfoldable pub obeyedBy : Command → Board → After
+obeyedBy c x = afterObeying (obeyed c (x .registers) (x .program) (x .store)) c x
+
+-- no reply; "1: checksum wrong: value 0; nothing changes", with the command as received; or the command obeyed
+unfoldable pub received : Taken → Board → After
+received NotOurs x = unchanged 0 x
+received (Damaged n) x =
+    record {
+      board =
+          board (x .registers) (x .program) (x .store)
+          (replied (x .reply) (addresses (x .registers .values)) Checksum n (word (pos 0)));
+      status = numberOf Checksum;
+    }
+received (Whole c) x = obeyedBy c x
+
+-- "a program store of 7,168 bytes .., a parameter store of 364 bytes .., a reply buffer of 9"
+abbrev pub lent : List ℕ → List ℕ → List ℕ → Bool
+lent p m b = eqb (length p) 7168 && eqb (length m) 364 && eqb (length b) 9
+
+unfoldable pub datagram : List ℕ → Board → After
+datagram bytes x =
+    pick (lent (x .program) (x .store) (x .reply))
+    (pick (registersInRange (x .registers)) (received (takenOf (byteOf (x .registers .values) 66) bytes) x) (unchanged 23 x))
+    (unchanged 20 x)

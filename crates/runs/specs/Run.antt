@@ -1,0 +1,62 @@
+-- "A run has a budget of 0 to 1,000 steps"; "For the other events 20, then 23 (..), then .. 22"; "nothing changes, 0 steps".
+use Prim.Native.Nat.{ℕ}
+use mathlib.Core.Bool.{Bool, _&&_}
+use mathlib.Core.List.{List}
+use lib.Dec.{eqb, leb}
+use lib.ListN.{length}
+use Rattle.words.specs.Word.{pick}
+use Rattle.status.specs.Status.{numberOf}
+use Rattle.stepping.specs.Step.{Summary, begun, summary}
+use Rattle.stepping.specs.Step as steps
+use Rattle.board.specs.Range.{registersInRange}
+use Rattle.board.specs.Step.{stateOf, pinsOf, withState}
+use Rattle.board.specs.declared.Registers.{Registers}
+use Rattle.runs.specs.declared.Ended.{Ended}
+use Rattle.runs.specs.declared.Ended.the-variants.{Length, HandedIn, Budget, Last}
+use Rattle.runs.specs.declared.Ran.{Ran}
+
+-- 01's number of what ended a run: the last step's status
+abbrev pub endedStatus : Ended → ℕ
+endedStatus Length = 20
+endedStatus HandedIn = 23
+endedStatus Budget = 22
+endedStatus (Last s) = numberOf s
+
+abbrev pub refused : Ended → Registers → Ran
+refused e r = record { registers = r; ended = e; steps = 0 }
+
+-- a run that was made, with the parameter store it leaves
+pub record Left : Type 0 where
+  pub ran : Ran
+  pub store : List ℕ
+
+abbrev pub left : Ran → List ℕ → Left
+left r m = record { ran = r; store = m }
+
+abbrev pub leftBy : Summary → Registers → Left
+leftBy x r =
+    left (record { registers = withState (x .state) r; ended = Last (x .status); steps = x .steps }) (x .state .store)
+
+unfoldable pub gone : List ℕ → ℕ → Registers → List ℕ → Left
+gone program budget r m = leftBy (summary (steps.run program (pinsOf r) budget (begun (stateOf r m)))) r
+
+-- registers, parameter store and the two numbers that are answered
+pub record Answer : Type 0 where
+  pub registers : Registers
+  pub store : List ℕ
+  pub status : ℕ
+  pub steps : ℕ
+
+abbrev pub answered : Ran → List ℕ → Answer
+answered r m = record { registers = r .registers; store = m; status = endedStatus (r .ended); steps = r .steps }
+
+abbrev pub afterRun : Left → Answer
+afterRun l = answered (l .ran) (l .store)
+
+unfoldable pub run : List ℕ → ℕ → Registers → List ℕ → Answer
+run program budget r m =
+    pick (eqb (length program) 7168 && eqb (length m) 364)
+    (pick (registersInRange r)
+    (pick (leb budget 1000) (afterRun (gone program budget r m)) (answered (refused Budget r) m))
+    (answered (refused HandedIn r) m))
+    (answered (refused Length r) m)

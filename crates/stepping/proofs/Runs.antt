@@ -1,10 +1,10 @@
 -- A run goes one step at a time. Assumes nothing.
 use Prim.Native.Nat.{ℕ, zero, suc, _-_, _<_}
 use native.Mathlib.Omega.{arith}
-use mathlib.Core.Path.{_≡_, refl}
+use mathlib.Core.Path.{_≡_, refl, sym, ap, _∙_}
 use mathlib.Core.Bool.{true, false}
 use mathlib.Core.List.{List}
-use Rattle.stepping.specs.Step.{Pins, Progress, goesOn, advanced, run}
+use Rattle.stepping.specs.Step.{Pins, Progress, After, step, onward, goesOn, advanced, run}
 
 module _ (program : List ℕ) (p : Pins) where
   pub run-zero : (n : ℕ) (x : Progress) → n ≡ 0 → run program p n x ≡ x
@@ -20,3 +20,8 @@ module _ (program : List ℕ) (p : Pins) where
   unfolding run
   run-onward zero x h e = absurd (omega arith)
   run-onward (suc n) x h e = let m : suc n - 1 ≡ n = omega arith in simp (e, m)
+
+  -- one turn of a run's loop: y is what the step left
+  pub turned : (n : ℕ) (x z : Progress) (y : After) → y ≡ step program p (x .state) → 0 < n → goesOn x ≡ true → run program p n x ≡ z
+      → run program p (n - 1) (onward y (x .steps)) ≡ z
+  turned n x z y e h g r = ap (λ (w : After). run program p (n - 1) (onward w (x .steps))) e ∙ sym (run-onward n x h g) ∙ r

@@ -3,6 +3,7 @@
 // The scalars go by value and stay in machine registers; the arrays are lent, so that a step copies
 // none of them.
 ghost use mathlib.Core.Path.{_≡_};
+ghost use Rattle.stepping.specs.Laws.{Laws};
 ghost use Rattle.stepping.specs.Step as spec;
 use registers::Core;
 use status::Status;
@@ -165,3 +166,8 @@ pub fn run(
     }
     ran
 }
+
+// The laws of a run, held to be proved: the function does nothing.
+pub fn laws()
+    ensures { λ _. ⌜ Laws ⌝ }
+{}

@@ -1,12 +1,12 @@
 -- `stepping::run` meets its contract: what is left to run from where the loop stands is the whole run. Assumes nothing.
-use Prim.Native.Nat.{_+_, _-_}
+use Prim.Native.Nat.{_+_}
 use native.Mathlib.Omega.{arith}
 use mathlib.Core.Path.{_≡_, refl, sym, ap, _∙_}
 use lib.ListN.{length}
 use borrow.Author.Needs.{needs}
 use borrow.Author.Tests.{not-true, not-false}
-use Rattle.stepping.specs.Step.{Progress, After, state, pins, begun, onward, run, summary}
-use Rattle.stepping.proofs.Runs.{run-zero, run-ends, run-onward}
+use Rattle.stepping.specs.Step.{Progress, state, pins, begun, run, summary}
+use Rattle.stepping.proofs.Runs.{run-zero, run-ends, turned}
 use Rattle.stepping.proofs.run.Statement.{statement}
 use Rattle.stepping.proofs.run.Tie as tie
 
@@ -53,8 +53,7 @@ loop-again c =
     let a = l .before .before .before .args in
     let q = pins (a .digital .now) (a .analog .now) in
     let x : Progress = record { state = state (k .ran .core) (k .entries) (k .values) (k .outputs) (k .store); status = k .ran .status; steps = k .ran .steps; held = k .held } in
-    let e = run-onward (a .program .now) q (k .left) x (omega arith) (simp (i .if1 .left, not-false (k .ran .core .running) (j .if2 .left))) in
-    (ap (λ (y : After). run (a .program .now) q (k .left - 1) (onward y (k .ran .steps))) (s .step .ensures) ∙ sym e ∙ k .inv .0, omega (arith, k .inv .1), c .before .before .before .store .given ∙ k .inv .2)
+    (turned (a .program .now) q (k .left) x _ _ (s .step .ensures) (omega arith) (simp (i .if1 .left, not-false (k .ran .core .running) (j .if2 .left))) (k .inv .0), omega (arith, k .inv .1), c .before .before .before .store .given ∙ k .inv .2)
 
 returns-3 : tie.Need-returns-3 Inv-loop μ-loop
 returns-3 c =

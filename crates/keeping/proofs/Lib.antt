@@ -1,0 +1,7 @@
+pub mod Elements
+pub mod Cores
+pub mod Flows
+pub mod Settings
+pub mod Applied
+pub mod Decided
+pub mod Rules

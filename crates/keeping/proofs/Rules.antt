@@ -1,0 +1,193 @@
+-- The laws of steps, runs and direct commands. Assumes nothing.
+use Prim.Native.Nat.{ℕ, zero, suc, _+_, _*_}
+use native.Mathlib.Omega.{arith}
+use mathlib.Core.Path.{_≡_, refl}
+use mathlib.Core.Bool.{true, false}
+use mathlib.Core.List.{List}
+use lib.Dec.{leb}
+use lib.IntN.{ℤ, pos}
+use lib.ListN.{length, getD}
+use mir.Syntax.{w32}
+use mir.Val.{SFits}
+use mir.ValLaws.{toZ-fits}
+use Rattle.words.specs.Word.{pick, word}
+use Rattle.words.specs.Bytes.{wordOf, wordAt}
+use Rattle.words.specs.Laws.{AllBytes}
+use Rattle.words.specs.declared.Word.{Word}
+use Rattle.words.proofs.Bools.{picked}
+use Rattle.wire.specs.Frame.{commandAt}
+use Rattle.wire.specs.declared.Command.{Command}
+use Rattle.store.specs.Store.{recordAt, zeroRecord}
+use Rattle.registers.specs.Registers.{next, stopped}
+use Rattle.registers.specs.Range.{coreInRange}
+use Rattle.status.specs.Status.{isDone, isUnknown}
+use Rattle.status.specs.declared.Status.{Status}
+use Rattle.status.specs.declared.Status.the-variants.{Done, Unavailable, Value}
+use Rattle.judge.specs.Judge.{judged, isFlow, isReading}
+use Rattle.flow.specs.Flow.{flowed}
+use Rattle.reading.specs.Reading.{read}
+use Rattle.effects.specs.Effects.{Work}
+use Rattle.deciding.specs.Deciding.{decided, worked}
+use Rattle.stepping.specs.Step.{State, Pins, After, Progress, after, only, loaded, afterFlow, afterWork, carried, obeyed, step, advanced, goesOn, run}
+use Rattle.directing.specs.Direct as directing
+use Rattle.directing.specs.Direct.{Direct, direct, refused, answered, answer, changed, directed}
+use Rattle.keeping.specs.Sound.{Sound}
+use Rattle.keeping.specs.Laws.{Laws, left}
+use Rattle.keeping.proofs.Cores.{next-in-range, stopped-in-range}
+use Rattle.keeping.proofs.Flows.{flowed-kept}
+use Rattle.keeping.proofs.Applied.{leaves, with-core, applied-sound, applied-store, applied-refused}
+use Rattle.keeping.proofs.Decided.{decided-good}
+
+-- ---- the value of a record is a word
+value-fits : (p : List ℕ) (at : ℕ) → AllBytes p → SFits w32 (wordAt p at)
+unfolding wordOf
+value-fits p at b =
+    let u = getD p at 0 * 16777216 + getD p (at + 1) 0 * 65536 + getD p (at + 2) 0 * 256 + getD p (at + 3) 0 in
+    toZ-fits w32 u (record { fits = omega (arith, b at, b (at + 1), b (at + 2), b (at + 3)) })
+
+record-fits : (p : List ℕ) (a : ℕ) → AllBytes p → SFits w32 (recordAt p a .value .v)
+unfolding recordAt
+record-fits p a b =
+    picked (λ (c : Command). SFits w32 (c .value .v)) (leb (a * 7 + 7) (length p)) (commandAt p (a * 7)) zeroRecord
+    (λ _. value-fits p (a * 7 + 3) b) (record { sfits = omega arith })
+
+-- ---- work
+worked-sound : (c : Command) (x : State) → isDone (judged c) ≡ true → SFits w32 (c .value .v) → Sound x
+    → Sound (leaves (worked c (x .core) (x .values) (x .outputs) (x .store)) (x .entries))
+unfolding worked
+worked-sound c x h f s = applied-sound x s (decided c (x .core) (x .values)) (decided-good c (x .core) (x .values) h f (s .core))
+
+worked-store : (c : Command) (x : State) → length (worked c (x .core) (x .values) (x .outputs) (x .store) .store) ≡ length (x .store)
+unfolding worked
+worked-store c x = applied-store (x .core) (x .values) (x .outputs) (x .store) (decided c (x .core) (x .values))
+
+worked-refused : (c : Command) (x : State) → isDone (worked c (x .core) (x .values) (x .outputs) (x .store) .status) ≡ false
+    → leaves (worked c (x .core) (x .values) (x .outputs) (x .store)) (x .entries) ≡ x
+unfolding worked
+worked-refused c x = applied-refused x (decided c (x .core) (x .values))
+
+-- ---- direct commands
+module _ (c : Command) (x : State) where
+  -- what holds with all as it was, and of the command's work once the judge has let it through, holds of what the command leaves
+  by-direct : (digital : List ℕ) (analog : List ℤ) (P : Direct → Type 0)
+      → ((s : Status) (w : Word) → P (direct (answered s w (x .core)) (x .values) (x .outputs) (x .store)))
+      → (isDone (judged c) ≡ true → P (changed c (x .core) (x .values) (x .outputs) (x .store)))
+      → P (directed c (x .core) (x .values) (x .outputs) digital analog (x .store))
+  unfolding directed
+  by-direct digital analog P same working =
+      let v = x .values in
+      let o = x .outputs in
+      let m = x .store in
+      let unavailable = direct (refused Unavailable (x .core)) v o m in
+      let r = read c (x .core) v o digital analog in
+      let reading = direct (answered Done r (x .core)) v o m in
+      let through = pick (isReading (c .number)) reading (changed c (x .core) v o m) in
+      let not-through = direct (refused (judged c) (x .core)) v o m in
+      picked P (isFlow (c .number)) unavailable (pick (isDone (judged c)) through not-through) (λ _. same Unavailable (word (pos 0)))
+      (picked P (isDone (judged c)) through not-through
+      (λ h. picked P (isReading (c .number)) reading (changed c (x .core) v o m) (λ _. same Done r) (working h))
+      (same (judged c) (word (pos 0))))
+
+  -- what holds of the command's work, whatever is answered, holds of what it changes
+  by-work : (P : Direct → Type 0) (k : Work)
+      → ((w : Word) → P (direct (answered (k .status) w (k .core)) (k .values) (k .outputs) (k .store)))
+      → P (directing.afterWork c k)
+  by-work P k f =
+      let w = answer c (k .core) in
+      picked P (isDone (k .status)) (direct (answered (k .status) w (k .core)) (k .values) (k .outputs) (k .store))
+      (direct (refused (k .status) (k .core)) (k .values) (k .outputs) (k .store)) (λ _. f w) (f (word (pos 0)))
+
+  module _ (digital : List ℕ) (analog : List ℤ) where
+    direct-sound : SFits w32 (c .value .v) → Sound x
+        → Sound (left (directed c (x .core) (x .values) (x .outputs) digital analog (x .store)) (x .entries))
+    unfolding changed
+    direct-sound f s =
+        let P : Direct → Type 0 = λ d. Sound (left d (x .entries)) in
+        by-direct digital analog P (λ _ _. s)
+        (λ h. by-work P (worked c (x .core) (x .values) (x .outputs) (x .store)) (λ _. worked-sound c x h f s))
+
+    direct-store : length (directed c (x .core) (x .values) (x .outputs) digital analog (x .store) .store) ≡ length (x .store)
+    unfolding changed
+    direct-store =
+        let P : Direct → Type 0 = λ d. length (d .store) ≡ length (x .store) in
+        by-direct digital analog P (λ _ _. refl)
+        (λ _. by-work P (worked c (x .core) (x .values) (x .outputs) (x .store)) (λ _. worked-store c x))
+
+    direct-refused : isDone (directed c (x .core) (x .values) (x .outputs) digital analog (x .store) .status) ≡ false
+        → left (directed c (x .core) (x .values) (x .outputs) digital analog (x .store)) (x .entries) ≡ x
+    unfolding changed
+    direct-refused =
+        let P : Direct → Type 0 = λ d. isDone (d .status) ≡ false → left d (x .entries) ≡ x in
+        by-direct digital analog P (λ _ _ _. refl)
+        (λ _. by-work P (worked c (x .core) (x .values) (x .outputs) (x .store)) (λ _. worked-refused c x))
+
+-- ---- steps
+-- what holds after a stop, after the next record, after the program's flow, after a reading and after the work of a command that the
+-- judge has let through holds after a step
+module _ (p : Pins) (x : State) (P : State → Type 0) (halt : P (only (stopped (x .core)) x)) where
+  by-obeyed : (r : Command) → P (only (next (x .core)) x)
+      → P (afterFlow (flowed r (x .core) (x .entries) (x .values)) x .state)
+      → P (only (loaded r (x .core) (x .values) (x .outputs) (p .digital) (p .analog) .core) x)
+      → (isDone (judged r) ≡ true → P (afterWork (worked r (x .core) (x .values) (x .outputs) (x .store)) x .state))
+      → P (obeyed r p x .state)
+  unfolding obeyed carried
+  by-obeyed r goes flows reads works =
+      let Q : After → Type 0 = λ a. P (a .state) in
+      let unknown = after (judged r) (only (stopped (x .core)) x) in
+      let not-through = after (judged r) (only (next (x .core)) x) in
+      let flowing = afterFlow (flowed r (x .core) (x .entries) (x .values)) x in
+      let reading = after Done (only (loaded r (x .core) (x .values) (x .outputs) (p .digital) (p .analog) .core) x) in
+      let working = afterWork (worked r (x .core) (x .values) (x .outputs) (x .store)) x in
+      picked Q (isUnknown (judged r)) unknown (pick (isDone (judged r)) (carried r p x) not-through) (λ _. halt)
+      (picked Q (isDone (judged r)) (carried r p x) not-through
+      (λ h. picked Q (isFlow (r .number)) flowing (pick (isReading (r .number)) reading working) (λ _. flows)
+      (picked Q (isReading (r .number)) reading working (λ _. reads) (works h)))
+      goes)
+
+  by-step : (program : List ℕ) → P (obeyed (recordAt program (x .core .address)) p x .state) → P (step program p x .state)
+  unfolding step
+  by-step program goes =
+      picked (λ (a : After). P (a .state)) (leb 1024 (x .core .address)) (after Value (only (stopped (x .core)) x))
+      (obeyed (recordAt program (x .core .address)) p x) (λ _. halt) goes
+
+goes-on : (x : State) → Sound x → Sound (only (next (x .core)) x)
+goes-on x s = with-core x s (next (x .core)) (x .store) (next-in-range (x .core) (s .core))
+
+module _ (program : List ℕ) (p : Pins) where
+  step-sound : (x : State) → AllBytes program → Sound x → Sound (step program p x .state)
+  unfolding coreInRange
+  step-sound x b s =
+      let r = recordAt program (x .core .address) in
+      let stop = with-core x s (stopped (x .core)) (x .store) (stopped-in-range (x .core) (s .core)) in
+      let f = flowed-kept (x .core) (s .core) (x .entries) (s .entries) r (x .values) in
+      by-step p x Sound stop program
+      (by-obeyed p x Sound stop r
+      (goes-on x s)
+      (record { core = f .core; entries = f .entries; values = s .values; size = s .size; outputs = s .outputs })
+      (with-core x s (loaded r (x .core) (x .values) (x .outputs) (p .digital) (p .analog) .core) (x .store) (next-in-range (x .core) (s .core)))
+      (λ h. goes-on (leaves (worked r (x .core) (x .values) (x .outputs) (x .store)) (x .entries))
+      (worked-sound r x h (record-fits program (x .core .address) b) s)))
+
+  step-store : (x : State) → length (step program p x .state .store) ≡ length (x .store)
+  step-store x =
+      let P : State → Type 0 = λ y. length (y .store) ≡ length (x .store) in
+      let r = recordAt program (x .core .address) in
+      by-step p x P refl program (by-obeyed p x P refl r refl refl refl (λ _. worked-store r x))
+
+  run-sound : (n : ℕ) (x : Progress) → AllBytes program → Sound (x .state) → Sound (run program p n x .state)
+  unfolding run
+  run-sound zero x b s = s
+  run-sound (suc n) x b s =
+      picked (λ (y : Progress). Sound (y .state)) (goesOn x) (run program p n (advanced program p x)) x
+      (λ _. run-sound n (advanced program p x) b (step-sound (x .state) b s)) s
+
+pub laws : Laws
+laws =
+    record {
+      step-sound = step-sound;
+      run-sound = run-sound;
+      direct-sound = λ c digital analog x. direct-sound c x digital analog;
+      step-store = step-store;
+      direct-store = λ c digital analog x. direct-store c x digital analog;
+      direct-refused = λ c digital analog x. direct-refused c x digital analog;
+    }

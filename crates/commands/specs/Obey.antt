@@ -10,12 +10,11 @@ use Rattle.sheet.specs.Rows.{rows}
 use Rattle.store.specs.Store.{putRecord}
 use Rattle.settings.specs.Settings.{locked}
 use Rattle.registers.specs.Registers.{withMotion}
-use Rattle.registers.specs.declared.Core.{Core}
 use Rattle.registers.specs.declared.Download.{Download}
 use Rattle.registers.specs.declared.Order.the-variants.{Stopped}
 use Rattle.status.specs.Status.{isDone}
 use Rattle.status.specs.declared.Status.{Status}
-use Rattle.status.specs.declared.Status.the-variants.{Done, Stored, Unknown, Value, Locked}
+use Rattle.status.specs.declared.Status.the-variants.{Stored, Unknown, Value, Locked}
 use Rattle.directing.specs.Direct.{Direct, directed}
 use Rattle.resetting.specs.Resetting.{resetValues, resetCells}
 use Rattle.control.specs.Control as control

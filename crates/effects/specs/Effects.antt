@@ -13,7 +13,6 @@ use Rattle.store.specs.Store.{putCell}
 use Rattle.values.specs.Values.{valueAt, setValue, poweredAt}
 use Rattle.registers.specs.Registers.{withNumbers, withLast, withMotion, withFlags}
 use Rattle.registers.specs.declared.Core.{Core}
-use Rattle.registers.specs.declared.Motion.{Motion}
 use Rattle.registers.specs.declared.Order.the-variants.{Position}
 use Rattle.status.specs.declared.Status.{Status}
 use Rattle.status.specs.declared.Status.the-variants.{Done}

@@ -1,7 +1,7 @@
 -- What the seven bytes of a command decide by themselves: "Order: .. 2, .. motor or bank 4, type 3, value 4". Commands are those
 -- of "Direct commands" and "Program steps", by their numbers.
 use Prim.Native.Nat.{ℕ}
-use mathlib.Core.Bool.{Bool, true, false, not, _&&_, _||_}
+use mathlib.Core.Bool.{Bool, true, not, _&&_, _||_}
 use mathlib.Core.List.{_++_}
 use lib.Dec.{eqb, leb, ltb}
 use lib.IntN.{ℤ, pos, negsuc}

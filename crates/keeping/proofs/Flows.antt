@@ -53,7 +53,7 @@ module _ (e : List ℕ) (h : entriesInRange e ≡ true) where
       (taken (set e (d - 1) 0) (d - 1) (getD e (d - 1) 0)) (taken e d 0)
       (λ _. leb-true (getD e (d - 1) 0) 1024 (every-get addressInRange e (d - 1) 0 h refl)) (omega arith)
 
-address-low : (z : ℤ) → addressOf z ≤ 1024
+pub address-low : (z : ℤ) → addressOf z ≤ 1024
 unfolding addressOf
 address-low z =
     let u = bitsOf z in

@@ -39,7 +39,7 @@ use Rattle.keeping.proofs.Applied.{leaves, with-core, applied-sound, ap
 use Rattle.keeping.proofs.Decided.{decided-good}
 
 -- ---- the value of a record is a word
-value-fits : (p : List ℕ) (at : ℕ) → AllBytes p → SFits w32 (wordAt p at)
+pub value-fits : (p : List ℕ) (at : ℕ) → AllBytes p → SFits w32 (wordAt p at)
 unfolding wordOf
 value-fits p at b =
     let u = getD p at 0 * 16777216 + getD p (at + 1) 0 * 65536 + getD p (at + 2) 0 * 256 + getD p (at + 3) 0 in

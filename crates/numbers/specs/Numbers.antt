@@ -1,6 +1,5 @@
 -- CALC, CALCX and CLE.
 use Prim.Native.Nat.{ℕ}
-use mathlib.Core.Bool.{_||_}
 use lib.Dec.{eqb}
 use Rattle.words.specs.Word.{pick, word}
 use Rattle.words.specs.declared.Word.{Word}

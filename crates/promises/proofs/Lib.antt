@@ -1,2 +1,4 @@
 pub mod Rules
 pub mod Computed
+pub mod Kept
+pub mod Refusals

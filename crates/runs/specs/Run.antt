@@ -1,6 +1,6 @@
 -- "A run has a budget of 0 to 1,000 steps"; "For the other events 20, then 23 (..), then .. 22"; "nothing changes, 0 steps".
 use Prim.Native.Nat.{ℕ}
-use mathlib.Core.Bool.{Bool, _&&_}
+use mathlib.Core.Bool.{_&&_}
 use mathlib.Core.List.{List}
 use lib.Dec.{eqb, leb}
 use lib.ListN.{length}

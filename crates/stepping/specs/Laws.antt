@@ -4,7 +4,6 @@ use mathlib.Core.Path.{_≡_}
 use mathlib.Core.Logic.{_⊎_}
 use mathlib.Core.Bool.{true, false}
 use mathlib.Core.List.{List}
-use Rattle.words.specs.Word.{pick}
 use Rattle.stepping.specs.Step.{State, Pins, Progress, step, begun, advanced, goesOn, run}
 
 -- so many single steps, one after the other

@@ -11,7 +11,7 @@ use Rattle.registers.specs.Registers.{withNumbers, next, stopped}
 use Rattle.registers.specs.declared.Core.{Core}
 use Rattle.status.specs.Status.{isDone, isUnknown}
 use Rattle.status.specs.declared.Status.{Status}
-use Rattle.status.specs.declared.Status.the-variants.{Done, Unknown, Value}
+use Rattle.status.specs.declared.Status.the-variants.{Done, Value}
 use Rattle.judge.specs.Judge.{judged, isFlow, isReading}
 use Rattle.flow.specs.Flow.{Flow, flowed}
 use Rattle.reading.specs.Reading.{read}

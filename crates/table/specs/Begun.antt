@@ -4,12 +4,10 @@ use mathlib.Core.List.{List}
 use lib.IntN.{ℤ}
 use lib.ListN.{replicate}
 use Rattle.words.specs.Word.{word}
-use Rattle.words.specs.declared.Word.{Word}
 use Rattle.wire.specs.declared.Command.{Command}
 use Rattle.values.specs.Examples.{defaultCells}
 use Rattle.status.specs.Status.{numberOf}
 use Rattle.board.specs.Registers.{powered}
-use Rattle.board.specs.declared.Registers.{Registers}
 use Rattle.commands.specs.Obey.{Outcome, obeyed}
 use Rattle.datagrams.specs.Datagram.{Board, board, datagram}
 

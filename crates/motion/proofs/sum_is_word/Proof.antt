@@ -1,6 +1,5 @@
 -- `motion::sum_is_word` meets its contract. Assumes nothing.
 use Rattle.wrapping.proofs.Whole.{signed}
-use borrow.Author.Needs.{needs}
 use Rattle.motion.proofs.sum_is_word.Statement.{statement}
 use Rattle.motion.proofs.sum_is_word.Tie as tie
 

@@ -1,0 +1,62 @@
+-- What is relied on of commands, datagrams and runs.
+use Prim.Native.Nat.{ℕ}
+use mathlib.Core.Path.{_≡_}
+use mathlib.Core.Bool.{Bool, true, false}
+use mathlib.Core.List.{List}
+use lib.ListN.{length}
+use mir.Syntax.{w32}
+use mir.Val.{SFits}
+use Rattle.words.specs.Laws.{AllBytes}
+use Rattle.wire.specs.declared.Command.{Command}
+use Rattle.status.specs.declared.Status.{Status}
+use Rattle.status.specs.declared.Status.the-variants.{Done, Stored, Checksum, Unknown, Kind, Value, Locked, Unavailable}
+use Rattle.serial.specs.Serial.{takenOf}
+use Rattle.serial.specs.declared.Taken.the-variants.{NotOurs}
+use Rattle.board.specs.Range.{registersInRange}
+use Rattle.board.specs.Step.{stepOnce}
+use Rattle.board.specs.declared.Registers.{Registers}
+use Rattle.commands.specs.Obey.{done, refused, outcome, obeyed}
+use Rattle.runs.specs.Run as runs
+use Rattle.runs.specs.declared.Ran.{Ran}
+use Rattle.datagrams.specs.Datagram.{Board, board, left, byteOf, datagram}
+use Rattle.datagrams.specs.declared.Answered.{Answered}
+
+-- a command was carried out: done, or put in program memory
+abbrev pub carriedOut : Status → Bool
+carriedOut Done = true
+carriedOut Stored = true
+carriedOut Checksum = false
+carriedOut Unknown = false
+carriedOut Kind = false
+carriedOut Value = false
+carriedOut Locked = false
+carriedOut Unavailable = false
+
+-- registers in range, with as many values as there are
+pub record InRange (r : Registers) : Type 0 where
+  pub all : registersInRange r ≡ true
+  pub size : length (r .values) ≡ 103
+
+pub record Commands : Type 0 where
+  -- a command that is not carried out, in whatever mode, changes no register and no byte of either store, and answers 0
+  pub command-refused : (c : Command) (r : Registers) (p m : List ℕ) → carriedOut (obeyed c r p m .status) ≡ false
+      → obeyed c r p m ≡ outcome (refused (obeyed c r p m .status) r) p m
+  -- 130 does what a run's step does, and answers 100 and the value sent whatever the step's own status is
+  pub single-step : (c : Command) (r : Registers) (p m : List ℕ) → c .number ≡ 130 → r .core .running ≡ false → r .download .on ≡ false
+      → obeyed c r p m ≡ outcome (done Done (c .value) (stepOnce p r m .registers)) p (stepOnce p r m .store)
+  -- a datagram of another length or to another address changes nothing, the reply buffer included
+  pub not-ours : (bytes : List ℕ) (x : Board) → takenOf (byteOf (x .registers .values) 66) bytes ≡ NotOurs
+      → datagram bytes x .board ≡ x
+  -- a datagram that is answered anything but 100 and 101 changes no register and no byte of either store
+  pub datagram-refused : (bytes : List ℕ) (x : Board) → (datagram bytes x .status ≡ 100 → ⊥) → (datagram bytes x .status ≡ 101 → ⊥)
+      → datagram bytes x .board ≡ board (x .registers) (x .program) (x .store) (datagram bytes x .board .reply)
+  -- registers in range stay so under every command, datagram and run
+  pub command-in-range : (c : Command) (r : Registers) (p m : List ℕ) → SFits w32 (c .value .v) → AllBytes p → InRange r
+      → InRange (obeyed c r p m .registers)
+  pub datagram-in-range : (bytes : List ℕ) (x : Board) → AllBytes bytes → AllBytes (x .program) → InRange (x .registers)
+      → InRange (datagram bytes x .board .registers)
+  pub run-in-range : (program : List ℕ) (budget : ℕ) (r : Registers) (m : List ℕ) → AllBytes program → InRange r
+      → InRange (runs.run program budget r m .registers)
+  -- two answers that meet a promise are one
+  pub one-datagram : (a b : Answered) (p m o : List ℕ) → left a p m o ≡ left b p m o → a ≡ b
+  pub one-run : (a b : Ran) (m : List ℕ) → runs.answered a m ≡ runs.answered b m → a ≡ b

@@ -16,15 +16,12 @@ use Rattle.registers.specs.declared.Core.{Core}
 use Rattle.registers.specs.declared.Download.{Download}
 use Rattle.jumping.specs.Jump.{isAddress, addressOf}
 use Rattle.reading.specs.Reading.{bit}
+use Rattle.status.specs.Status.{inOrder}
 use Rattle.status.specs.declared.Status.{Status}
-use Rattle.status.specs.declared.Status.the-variants.{Done, Unknown, Kind, Value, Locked, Unavailable}
+use Rattle.status.specs.declared.Status.the-variants.{Done, Unknown}
 use Rattle.control.specs.declared.Controlled.{Controlled}
 
 -- ---- refusals
-abbrev pub inOrder : Bool → Bool → Bool → Bool → Status
-inOrder available kind value unlocked =
-    pick available (pick kind (pick value (pick unlocked Done Locked) Value) Kind) Unavailable
-
 -- "137 value 1234", "255 value 1234"
 abbrev pub isKey : ℤ → Bool
 isKey z = sameW z (pos 1234)
@@ -38,15 +35,15 @@ begins kind z = pick (eqb kind 0) true (isAddress z)
 unfoldable pub judged : Command → Bool → Bool → Bool → Status
 judged c running downloading locked =
     pick (eqb (c .number) 128) Done
-    (pick (eqb (c .number) 129) (inOrder (not downloading) (leb (c .kind) 1) (begins (c .kind) (c .value .v)) true)
-    (pick (eqb (c .number) 130) (inOrder (not running && not downloading) true true true)
+    (pick (eqb (c .number) 129) (inOrder (not downloading) true (leb (c .kind) 1) (begins (c .kind) (c .value .v)) true)
+    (pick (eqb (c .number) 130) (inOrder (not running && not downloading) true true true true)
     (pick (eqb (c .number) 131) Done
-    (pick (eqb (c .number) 132) (inOrder (not running) true (isAddress (c .value .v)) (not locked))
+    (pick (eqb (c .number) 132) (inOrder (not running) true true (isAddress (c .value .v)) (not locked))
     (pick (eqb (c .number) 133) Done
-    (pick (eqb (c .number) 134) (inOrder true (leb (c .kind) 1) (isAddress (c .value .v)) true)
+    (pick (eqb (c .number) 134) (inOrder true true (leb (c .kind) 1) (isAddress (c .value .v)) true)
     (pick (eqb (c .number) 135) Done
-    (pick (eqb (c .number) 137) (inOrder (not running) true (isKey (c .value .v)) (not locked))
-    (pick (eqb (c .number) 255) (inOrder true true (isKey (c .value .v)) true)
+    (pick (eqb (c .number) 137) (inOrder (not running) true true (isKey (c .value .v)) (not locked))
+    (pick (eqb (c .number) 255) (inOrder true true true (isKey (c .value .v)) true)
     Unknown)))))))))
 
 -- ---- what is left of the scalars, the download and the stack

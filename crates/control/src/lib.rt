@@ -6,31 +6,9 @@ ghost use Rattle.control.specs.Control as spec;
 use registers::Core;
 use registers::Download;
 use status::Status;
+use status::in_order;
 use wire::Command;
 use words::Word;
-
-// Not available, then type, then value, then the lock.
-fn in_order(available: bool, kind: bool, value: bool, unlocked: bool) -> Status
-    ensures { λ r. ⌜ r ≡ spec.inOrder available kind value unlocked ⌝ }
-{
-    if available {
-        if kind {
-            if value {
-                if unlocked {
-                    Status::Done
-                } else {
-                    Status::Locked
-                }
-            } else {
-                Status::Value
-            }
-        } else {
-            Status::Kind
-        }
-    } else {
-        Status::Unavailable
-    }
-}
 
 // Whether a value is the key to 137 and 255.
 fn is_key(value: Word) -> bool
@@ -59,15 +37,15 @@ pub fn judge(c: Command, running: bool, downloading: bool, locked: bool) -> Stat
     let value = c.value;
     match number {
         128 => Status::Done,
-        129 => in_order(!downloading, kind <= 1, begins(kind, value), true),
-        130 => in_order(!running & !downloading, true, true, true),
+        129 => in_order(!downloading, true, kind <= 1, begins(kind, value), true),
+        130 => in_order(!running & !downloading, true, true, true, true),
         131 => Status::Done,
-        132 => in_order(!running, true, jumping::is_address(value), !locked),
+        132 => in_order(!running, true, true, jumping::is_address(value), !locked),
         133 => Status::Done,
-        134 => in_order(true, kind <= 1, jumping::is_address(value), true),
+        134 => in_order(true, true, kind <= 1, jumping::is_address(value), true),
         135 => Status::Done,
-        137 => in_order(!running, true, is_key(value), !locked),
-        255 => in_order(true, true, is_key(value), true),
+        137 => in_order(!running, true, true, is_key(value), !locked),
+        255 => in_order(true, true, true, is_key(value), true),
         _ => Status::Unknown,
     }
 }

@@ -2,21 +2,19 @@
 use Prim.Native.Nat.{ℕ}
 use mathlib.Core.List.{List}
 use lib.Dec.{eqb}
-use lib.IntN.{ℤ, pos}
+use lib.IntN.{ℤ}
 use Rattle.words.specs.Word.{pick}
 use Rattle.wire.specs.declared.Command.{Command}
-use Rattle.order.specs.Order.{sameW, comparedW}
+use Rattle.order.specs.Order.{comparedW}
 use Rattle.settings.specs.Settings.{axisPlace, bankPlace}
 use Rattle.registers.specs.declared.Core.{Core}
+use Rattle.pins.specs.Pins.{bitOf}
 use Rattle.effects.specs.Effects.{Work, applied}
 use Rattle.effects.specs.declared.Effect.{Effect}
 use Rattle.effects.specs.declared.Effect.the-variants.{Restore, Output, Last}
 use Rattle.motion.specs.Motion.{parameter, rightWithin, leftWithin, stop, moveTo}
 use Rattle.assigning.specs.Assigning.{assign, take, keep}
 use Rattle.numbers.specs.Numbers.{calc, calcx, clear}
-
-abbrev pub bitOf : ℤ → ℕ
-bitOf z = pick (sameW z (pos 1)) 1 0
 
 -- 1 ROR, 2 ROL, 3 MST, 4 MVP, 5 SAP, 7 STAP, 8 RSAP, 9 SGP, 11 STGP, 12 RSGP, 14 SIO, 19 CALC, 20 COMP, 33 CALCX, 34 AAP, 35 AGP
 -- and 36 CLE

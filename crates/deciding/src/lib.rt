@@ -2,23 +2,11 @@
 // the working values, once the judge has let it through; and done.
 ghost use mathlib.Core.Path.{_≡_};
 ghost use Rattle.effects.specs.Effects.{work};
-ghost use Rattle.deciding.specs.Deciding.{bitOf, decided, worked};
+ghost use Rattle.deciding.specs.Deciding.{decided, worked};
 use effects::Effect;
 use effects::Worked;
 use registers::Core;
 use wire::Command;
-use words::Word;
-
-// The bit that a value is.
-fn bit_of(value: Word) -> u8
-    ensures { λ r. ⌜ r ≡ bitOf (value .v) ⌝ }
-{
-    if order::equals(value, Word { v: 1 }) {
-        1
-    } else {
-        0
-    }
-}
 
 // The effect of a command.
 fn decide(c: Command, core: Core, values: &[i32; 103]) -> Effect
@@ -42,7 +30,7 @@ fn decide(c: Command, core: Core, values: &[i32; 103]) -> Effect
         9 => assigning::assign(settings::bank_place(bank, kind), value, values),
         11 => assigning::keep(settings::bank_place(bank, kind), values),
         12 => Effect::Restore(settings::bank_place(bank, kind)),
-        14 => Effect::Output(kind, bit_of(value)),
+        14 => Effect::Output(kind, pins::bit_of(value)),
         19 => numbers::calc(kind, value, accumulator, x),
         20 => Effect::Last(order::compare(accumulator, value)),
         33 => numbers::calcx(kind, accumulator, x),

@@ -1,7 +1,7 @@
 // Commands on the axis: motor 0, and parameters of the sheet.
 ghost use mathlib.Core.Path.{_≡_};
 ghost use Rattle.judge.specs.Judge as spec;
-use crate::in_order;
+use crate::by_bytes;
 use status::Status;
 use wire::Command;
 
@@ -40,13 +40,13 @@ fn storable(number: u8) -> bool
 pub fn motor_alone(c: Command) -> Status
     ensures { λ r. ⌜ r ≡ spec.motorAlone c ⌝ }
 {
-    in_order(c.motor == 0, true, true)
+    by_bytes(c.motor == 0, true, true)
 }
 
 pub fn mvp(c: Command) -> Status
     ensures { λ r. ⌜ r ≡ spec.mvp c ⌝ }
 {
-    in_order(c.motor == 0, c.kind <= 1, true)
+    by_bytes(c.motor == 0, c.kind <= 1, true)
 }
 
 pub fn sap(c: Command) -> Status
@@ -54,24 +54,24 @@ pub fn sap(c: Command) -> Status
 {
     let kind = c.kind;
     let value = settings::settable(places::axis_place(kind), c.value);
-    in_order(c.motor == 0, writable(kind), value)
+    by_bytes(c.motor == 0, writable(kind), value)
 }
 
 pub fn gap(c: Command) -> Status
     ensures { λ r. ⌜ r ≡ spec.gap c ⌝ }
 {
-    in_order(c.motor == 0, readable(c.kind), true)
+    by_bytes(c.motor == 0, readable(c.kind), true)
 }
 
 // STAP and RSAP.
 pub fn stap(c: Command) -> Status
     ensures { λ r. ⌜ r ≡ spec.stap c ⌝ }
 {
-    in_order(c.motor == 0, storable(c.kind), true)
+    by_bytes(c.motor == 0, storable(c.kind), true)
 }
 
 pub fn aap(c: Command) -> Status
     ensures { λ r. ⌜ r ≡ spec.aap c ⌝ }
 {
-    in_order(c.motor == 0, writable(c.kind), true)
+    by_bytes(c.motor == 0, writable(c.kind), true)
 }

@@ -1,7 +1,7 @@
 // Commands on globals and user variables: banks 0 and 2.
 ghost use mathlib.Core.Path.{_≡_};
 ghost use Rattle.judge.specs.Judge as spec;
-use crate::in_order;
+use crate::by_bytes;
 use status::Status;
 use wire::Command;
 
@@ -40,26 +40,26 @@ pub fn sgp(c: Command) -> Status
     let bank = c.motor;
     let kind = c.kind;
     let value = settings::settable(settings::bank_place(bank, kind), c.value);
-    in_order(is_bank(bank), takes(bank, kind), value)
+    by_bytes(is_bank(bank), takes(bank, kind), value)
 }
 
 pub fn ggp(c: Command) -> Status
     ensures { λ r. ⌜ r ≡ spec.ggp c ⌝ }
 {
     let bank = c.motor;
-    in_order(is_bank(bank), has(bank, c.kind), true)
+    by_bytes(is_bank(bank), has(bank, c.kind), true)
 }
 
 // STGP and RSGP.
 pub fn stgp(c: Command) -> Status
     ensures { λ r. ⌜ r ≡ spec.stgp c ⌝ }
 {
-    in_order(c.motor == 2, c.kind < 56, true)
+    by_bytes(c.motor == 2, c.kind < 56, true)
 }
 
 pub fn agp(c: Command) -> Status
     ensures { λ r. ⌜ r ≡ spec.agp c ⌝ }
 {
     let bank = c.motor;
-    in_order(is_bank(bank), takes(bank, c.kind), true)
+    by_bytes(is_bank(bank), takes(bank, c.kind), true)
 }

@@ -1,7 +1,7 @@
 // The one judge: what the seven bytes of a command decide by themselves. Direct mode and a program's
 // steps ask it before they look at the registers.
 ghost use mathlib.Core.Path.{_≡_};
-ghost use Rattle.judge.specs.Judge.{inOrder, judged, isFlow, isReading};
+ghost use Rattle.judge.specs.Judge.{byBytes, judged, isFlow, isReading};
 
 mod axis;
 mod globals;
@@ -12,19 +12,11 @@ mod targets;
 use status::Status;
 use wire::Command;
 
-// Motor or bank, then type, then value.
-fn in_order(motor: bool, kind: bool, value: bool) -> Status
-    ensures { λ r. ⌜ r ≡ inOrder motor kind value ⌝ }
+// What the bytes decide: motor or bank, then type, then value.
+fn by_bytes(motor: bool, kind: bool, value: bool) -> Status
+    ensures { λ r. ⌜ r ≡ byBytes motor kind value ⌝ }
 {
-    if motor {
-        if kind {
-            if value { Status::Done } else { Status::Value }
-        } else {
-            Status::Kind
-        }
-    } else {
-        Status::Value
-    }
+    status::in_order(true, motor, kind, value, true)
 }
 
 // The status that a command gets whatever the registers are; done where only they can refuse it.

@@ -1,7 +1,7 @@
 // CALC, CALCX and CLE.
 ghost use mathlib.Core.Path.{_≡_};
 ghost use Rattle.judge.specs.Judge as spec;
-use crate::in_order;
+use crate::by_bytes;
 use status::Status;
 use wire::Command;
 use words::Word;
@@ -28,17 +28,17 @@ pub fn calc(c: Command) -> Status
     ensures { λ r. ⌜ r ≡ spec.calc c ⌝ }
 {
     let kind = c.kind;
-    in_order(true, kind <= 9, calculable(kind, c.value))
+    by_bytes(true, kind <= 9, calculable(kind, c.value))
 }
 
 pub fn calcx(c: Command) -> Status
     ensures { λ r. ⌜ r ≡ spec.calcx c ⌝ }
 {
-    in_order(true, c.kind <= 10, true)
+    by_bytes(true, c.kind <= 10, true)
 }
 
 pub fn cle(c: Command) -> Status
     ensures { λ r. ⌜ r ≡ spec.cle c ⌝ }
 {
-    in_order(true, c.kind <= 4, true)
+    by_bytes(true, c.kind <= 4, true)
 }

@@ -1,7 +1,7 @@
 // Outputs and inputs: banks 0 to 2 and their ports.
 ghost use mathlib.Core.Path.{_≡_};
 ghost use Rattle.judge.specs.Judge as spec;
-use crate::in_order;
+use crate::by_bytes;
 use status::Status;
 use wire::Command;
 use words::Word;
@@ -10,7 +10,7 @@ pub fn sio(c: Command) -> Status
     ensures { λ r. ⌜ r ≡ spec.sio c ⌝ }
 {
     let bit = order::within(c.value, Word { v: 0 }, Word { v: 1 });
-    in_order(c.motor == 2, c.kind <= 3, bit)
+    by_bytes(c.motor == 2, c.kind <= 3, bit)
 }
 
 // The last port of a bank.
@@ -28,5 +28,5 @@ pub fn gio(c: Command) -> Status
     ensures { λ r. ⌜ r ≡ spec.gio c ⌝ }
 {
     let bank = c.motor;
-    in_order(bank <= 2, c.kind <= last_port(bank), true)
+    by_bytes(bank <= 2, c.kind <= last_port(bank), true)
 }

@@ -1,7 +1,7 @@
 // Jumps, calls and WAIT.
 ghost use mathlib.Core.Path.{_≡_};
 ghost use Rattle.judge.specs.Judge as spec;
-use crate::in_order;
+use crate::by_bytes;
 use status::Status;
 use wire::Command;
 use words::Word;
@@ -9,14 +9,14 @@ use words::Word;
 pub fn jc(c: Command) -> Status
     ensures { λ r. ⌜ r ≡ spec.jc c ⌝ }
 {
-    in_order(true, c.kind <= 11, jumping::is_address(c.value))
+    by_bytes(true, c.kind <= 11, jumping::is_address(c.value))
 }
 
 // JA and CSUB.
 pub fn ja(c: Command) -> Status
     ensures { λ r. ⌜ r ≡ spec.ja c ⌝ }
 {
-    in_order(true, true, jumping::is_address(c.value))
+    by_bytes(true, true, jumping::is_address(c.value))
 }
 
 // Whether the motor of a WAIT is right: types 1 to 3 want motor 0.
@@ -50,7 +50,7 @@ pub fn wait(c: Command) -> Status
     ensures { λ r. ⌜ r ≡ spec.wait c ⌝ }
 {
     let kind = c.kind;
-    in_order(
+    by_bytes(
         waits_there(kind, c.motor),
         kind <= 3,
         waitable(kind, c.value),

@@ -29,7 +29,8 @@ use Rattle.dividing.specs.Divide.{Answer}
 use Rattle.calculating.specs.Calculate.{calculated}
 use Rattle.numbers.specs.Numbers.{intoAccumulator, calc, calcx, cleared, clear}
 use Rattle.judge.specs.Judge as judge
-use Rattle.deciding.specs.Deciding.{bitOf, decided}
+use Rattle.pins.specs.Pins.{bitOf}
+use Rattle.deciding.specs.Deciding.{decided}
 use Rattle.keeping.proofs.Cores.{parts}
 use Rattle.keeping.proofs.Settings.{position-allowed, kept-allowed, set-allowed, move-allowed}
 use Rattle.keeping.proofs.Applied.{Good}
@@ -120,22 +121,22 @@ bit-good : (z : ℤ) → bitInRange (bitOf z) ≡ true
 bit-good z = picked (λ n. bitInRange n ≡ true) (sameW z (pos 1)) 1 0 (λ _. refl) refl
 
 -- ---- what the judge has let through may be set
-in-order : (motor kind value : Bool) → isDone (judge.inOrder motor kind value) ≡ true → value ≡ true
-in-order true true true h = refl
-in-order true true false h = h
-in-order true false value h = absurd (false≢true h)
-in-order false kind value h = absurd (false≢true h)
+by-bytes : (motor kind value : Bool) → isDone (judge.byBytes motor kind value) ≡ true → value ≡ true
+by-bytes true true true h = refl
+by-bytes true true false h = h
+by-bytes true false value h = absurd (false≢true h)
+by-bytes false kind value h = absurd (false≢true h)
 
 module _ (c : Command) (h : isDone (judge.judged c) ≡ true) where
   axis-settable : c .number ≡ 5 → settable (axisPlace (c .kind)) (c .value .v) ≡ true
   unfolding judge.judged judge.sap
   axis-settable e =
-      in-order (judge.motorZero c) (judge.writable (c .kind)) (settable (axisPlace (c .kind)) (c .value .v)) (rw e at h)
+      by-bytes (judge.motorZero c) (judge.writable (c .kind)) (settable (axisPlace (c .kind)) (c .value .v)) (rw e at h)
 
   bank-settable : c .number ≡ 9 → settable (bankPlace (c .motor) (c .kind)) (c .value .v) ≡ true
   unfolding judge.judged judge.sgp
   bank-settable e =
-      in-order (judge.isBank (c .motor)) (judge.takes (c .motor) (c .kind)) (settable (bankPlace (c .motor) (c .kind)) (c .value .v)) (rw e at h)
+      by-bytes (judge.isBank (c .motor)) (judge.takes (c .motor) (c .kind)) (settable (bankPlace (c .motor) (c .kind)) (c .value .v)) (rw e at h)
 
 pub decided-good : (c : Command) (core : Core) (values : List ℤ) → isDone (judge.judged c) ≡ true → SFits w32 (c .value .v)
     → coreInRange core ≡ true → Good (decided c core values)

@@ -36,7 +36,8 @@ fn is_on(w: Word) -> bool
     order::equals(w, Word { v: 1 })
 }
 
-fn bit(w: Word) -> u8
+// 1 where a word is 1, else 0.
+pub fn bit_of(w: Word) -> u8
     ensures { λ r. ⌜ r ≡ bitOf (w .v) ⌝ }
 {
     if is_on(w) { 1 } else { 0 }
@@ -61,7 +62,7 @@ impl Inputs {
     pub fn digital(self) -> [u8; 2]
         ensures { λ r. ⌜ r ≡ digitalOf self ⌝ }
     {
-        [bit(self.digital_0), bit(self.digital_1)]
+        [bit_of(self.digital_0), bit_of(self.digital_1)]
     }
 
     // As they are.

@@ -1,6 +1,7 @@
 -- The table of "Datagrams and status": the numbers of a command's status.
 use Prim.Native.Nat.{ℕ}
 use mathlib.Core.Bool.{Bool, true, false}
+use Rattle.words.specs.Word.{pick}
 use Rattle.status.specs.declared.Status.{Status}
 use Rattle.status.specs.declared.Status.the-variants.{Done, Stored, Checksum, Unknown, Kind, Value, Locked, Unavailable}
 
@@ -35,3 +36,8 @@ isUnknown Kind = false
 isUnknown Value = false
 isUnknown Locked = false
 isUnknown Unavailable = false
+
+-- "Order: .. 6, motor or bank 4, type 3, value 4, lock 5", from what is right
+abbrev pub inOrder : Bool → Bool → Bool → Bool → Bool → Status
+inOrder available motor kind value unlocked =
+    pick available (pick motor (pick kind (pick value (pick unlocked Done Locked) Value) Kind) Value) Unavailable

@@ -4,7 +4,7 @@ use Rattle.judge.proofs.axis.aap.Statement.{statement}
 use Rattle.judge.proofs.axis.aap.Tie as tie
 
 returns : tie.Need-returns
-returns c = simp (c .in-order .ensures, c .before .writable .ensures)
+returns c = simp (c .by-bytes .ensures, c .before .writable .ensures)
 
 pub aap-spec : {M : Type 1} → statement M
 aap-spec = tie.close (tie.spec (λ c κs. search needs) (λ c κs. search needs) returns)

@@ -6,7 +6,7 @@ use Rattle.judge.proofs.axis.sap.Tie as tie
 
 returns : tie.Need-returns
 unfolding sap
-returns c = simp (c .in-order .ensures, c .before .writable .ensures, c .before .before .before .settable .ensures, c .before .before .before .before .axis-place .ensures)
+returns c = simp (c .by-bytes .ensures, c .before .writable .ensures, c .before .before .before .settable .ensures, c .before .before .before .before .axis-place .ensures)
 
 pub sap-spec : {M : Type 1} → statement M
 sap-spec =

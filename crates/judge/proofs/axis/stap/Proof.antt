@@ -4,7 +4,7 @@ use Rattle.judge.proofs.axis.stap.Statement.{statement}
 use Rattle.judge.proofs.axis.stap.Tie as tie
 
 returns : tie.Need-returns
-returns c = simp (c .in-order .ensures, c .before .storable .ensures)
+returns c = simp (c .by-bytes .ensures, c .before .storable .ensures)
 
 pub stap-spec : {M : Type 1} → statement M
 stap-spec = tie.close (tie.spec (λ c κs. search needs) (λ c κs. search needs) returns)

@@ -4,7 +4,7 @@ use Rattle.judge.proofs.globals.agp.Statement.{statement}
 use Rattle.judge.proofs.globals.agp.Tie as tie
 
 returns : tie.Need-returns
-returns c = simp (c .in-order .ensures, c .before .takes .ensures, c .before .before .is-bank .ensures)
+returns c = simp (c .by-bytes .ensures, c .before .takes .ensures, c .before .before .is-bank .ensures)
 
 pub agp-spec : {M : Type 1} → statement M
 agp-spec = tie.close (tie.spec (λ c κs. search needs) (λ c κs. search needs) (λ c κs. search needs) returns)

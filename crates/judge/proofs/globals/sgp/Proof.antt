@@ -6,7 +6,7 @@ use Rattle.judge.proofs.globals.sgp.Tie as tie
 
 returns : tie.Need-returns
 unfolding sgp
-returns c = simp (c .in-order .ensures, c .before .takes .ensures, c .before .before .is-bank .ensures, c .before .before .before .settable .ensures, c .before .before .before .before .bank-place .ensures)
+returns c = simp (c .by-bytes .ensures, c .before .takes .ensures, c .before .before .is-bank .ensures, c .before .before .before .settable .ensures, c .before .before .before .before .bank-place .ensures)
 
 pub sgp-spec : {M : Type 1} → statement M
 sgp-spec =

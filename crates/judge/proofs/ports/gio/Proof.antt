@@ -4,7 +4,7 @@ use Rattle.judge.proofs.ports.gio.Statement.{statement}
 use Rattle.judge.proofs.ports.gio.Tie as tie
 
 returns : tie.Need-returns
-returns c = simp (c .in-order .ensures, c .before .before .last-port .ensures)
+returns c = simp (c .by-bytes .ensures, c .before .before .last-port .ensures)
 
 pub gio-spec : {M : Type 1} → statement M
 gio-spec = tie.close (tie.spec (λ c κs. search needs) (λ c κs. search needs) returns)

@@ -4,7 +4,7 @@ use Rattle.judge.proofs.targets.jc.Statement.{statement}
 use Rattle.judge.proofs.targets.jc.Tie as tie
 
 returns : tie.Need-returns
-returns c = simp (c .in-order .ensures, c .before .is-address .ensures)
+returns c = simp (c .by-bytes .ensures, c .before .is-address .ensures)
 
 pub jc-spec : {M : Type 1} → statement M
 jc-spec = tie.close (tie.spec (λ c κs. search needs) (λ c κs. search needs) returns)

@@ -122,7 +122,7 @@ impl Registers {
         let digital = self.digital;
         let analog = self.analog;
         let core = self.core;
-        let stepped = stepping::step(
+        let ran = stepping::run(
             core,
             &mut entries,
             &mut values,
@@ -131,9 +131,11 @@ impl Registers {
             &analog,
             store,
             program,
+            1,
+            true,
         );
-        let there = stepped.core;
-        let status = stepped.status;
+        let there = ran.core;
+        let status = ran.status;
         self.core = there;
         self.entries = entries;
         self.values = values;

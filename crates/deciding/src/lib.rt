@@ -2,23 +2,22 @@
 // the working values, once the judge has let it through; and done.
 ghost use mathlib.Core.Path.{_≡_};
 ghost use Rattle.effects.specs.Effects.{work};
-ghost use Rattle.deciding.specs.Deciding.{decided, worked};
+ghost use Rattle.deciding.specs.Deciding.{decidedBy, worked};
 use effects::Effect;
 use effects::Worked;
 use registers::Core;
+use registers::Flags;
 use wire::Command;
+use words::Word;
 
 // The effect of a command.
-fn decide(c: Command, core: Core, values: &[i32; 103]) -> Effect
-    ensures { λ r. ⌜ r ≡ decided c core (now (values .entry)) ⌝ }
+fn decide(c: Command, accumulator: Word, x: Word, flags: Flags, values: &[i32; 103]) -> Effect
+    ensures { λ r. ⌜ r ≡ decidedBy c accumulator x flags (now (values .entry)) ⌝ }
 {
     let number = c.number;
     let kind = c.kind;
     let bank = c.motor;
     let value = c.value;
-    let accumulator = core.accumulator;
-    let x = core.x;
-    let flags = core.flags;
     match number {
         1 => motion::right(value, values),
         2 => motion::left(value, values),
@@ -50,6 +49,9 @@ pub fn work(
 ) -> Worked
     ensures { λ r. ⌜ work r (now (values .exit)) (now (outputs .exit)) (now (store .exit)) ≡ worked c core (now (values .entry)) (now (outputs .entry)) (now (store .entry)) ⌝ }
 {
-    let effect = decide(c, core, values);
+    let accumulator = core.accumulator;
+    let x = core.x;
+    let flags = core.flags;
+    let effect = decide(c, accumulator, x, flags, values);
     effects::apply(core, values, outputs, store, effect)
 }

@@ -45,15 +45,58 @@ toPosition c = withMotion (record { order = Position; velocity = word (pos 0) })
 abbrev pub setPosition : List ℤ → Word → List ℤ
 setPosition v w = setValue v (placeIn axis 50) (w .v)
 
+-- ---- the working values, the outputs and the parameter store
+pub record Arrays : Type 0 where
+  pub values : List ℤ
+  pub outputs : List ℕ
+  pub store : List ℕ
+
+abbrev pub arrays : List ℤ → List ℕ → List ℕ → Arrays
+arrays v o m = record { values = v; outputs = o; store = m }
+
+abbrev pub written : Effect → List ℤ → List ℕ → List ℕ → Arrays
+written (Refused s) v o m = arrays v o m
+written (Turn motion) v o m = arrays v o m
+written (Move w) v o m = arrays (setPosition v w) o m
+written (Set place w) v o m = arrays (setValue v place (w .v)) o m
+written (Global place w) v o m = arrays (setValue v place (w .v)) o (putCell m (cellOf rows place) (w .v))
+written (Store place) v o m = arrays v o (putCell m (cellOf rows place) (valueAt v place .v))
+written (Restore place) v o m = arrays (setValue v place (poweredAt rows m place .v)) o m
+written (Output port bit) v o m = arrays v (setOutput o port bit) m
+written (Numbers a x) v o m = arrays v o m
+written (Last l) v o m = arrays v o m
+written (Clear f) v o m = arrays v o m
+
+-- ---- the scalars
+abbrev pub changed : Effect → Core → Core
+changed (Refused s) c = c
+changed (Turn motion) c = withMotion motion c
+changed (Move w) c = toPosition c
+changed (Set place w) c = c
+changed (Global place w) c = c
+changed (Store place) c = c
+changed (Restore place) c = c
+changed (Output port bit) c = c
+changed (Numbers a x) c = withNumbers a x c
+changed (Last l) c = withLast l c
+changed (Clear f) c = withFlags f c
+
+-- ---- the status: done, unless it is a refusal
+abbrev pub statusOf : Effect → Status
+statusOf (Refused s) = s
+statusOf (Turn motion) = Done
+statusOf (Move w) = Done
+statusOf (Set place w) = Done
+statusOf (Global place w) = Done
+statusOf (Store place) = Done
+statusOf (Restore place) = Done
+statusOf (Output port bit) = Done
+statusOf (Numbers a x) = Done
+statusOf (Last l) = Done
+statusOf (Clear f) = Done
+
+abbrev pub together : Status → Core → Arrays → Work
+together s c a = left s c (a .values) (a .outputs) (a .store)
+
 abbrev pub applied : Effect → Core → List ℤ → List ℕ → List ℕ → Work
-applied (Refused s) c v o m = left s c v o m
-applied (Turn motion) c v o m = left Done (withMotion motion c) v o m
-applied (Move w) c v o m = left Done (toPosition c) (setPosition v w) o m
-applied (Set place w) c v o m = left Done c (setValue v place (w .v)) o m
-applied (Global place w) c v o m = left Done c (setValue v place (w .v)) o (putCell m (cellOf rows place) (w .v))
-applied (Store place) c v o m = left Done c v o (putCell m (cellOf rows place) (valueAt v place .v))
-applied (Restore place) c v o m = left Done c (setValue v place (poweredAt rows m place .v)) o m
-applied (Output port bit) c v o m = left Done c v (setOutput o port bit) m
-applied (Numbers a x) c v o m = left Done (withNumbers a x c) v o m
-applied (Last l) c v o m = left Done (withLast l c) v o m
-applied (Clear f) c v o m = left Done (withFlags f c) v o m
+applied e c v o m = together (statusOf e) (changed e c) (written e v o m)

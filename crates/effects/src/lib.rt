@@ -1,8 +1,7 @@
 // What a command does to the registers and to the cells: decided first, then carried out here. A
 // refusal is one of these effects, and changes nothing.
 ghost use mathlib.Core.Path.{_≡_};
-ghost use Rattle.status.specs.declared.Status.the-variants.{Done};
-ghost use Rattle.effects.specs.Effects.{setOutput, work, setPosition, toPosition, applied};
+ghost use Rattle.effects.specs.Effects.{setOutput, work, arrays, written, changed, statusOf, applied};
 use order::Compared;
 use registers::Core;
 use registers::Flags;
@@ -38,15 +37,6 @@ pub struct Worked {
     pub status: Status,
 }
 
-fn done(core: Core) -> Worked
-    ensures { λ r. ⌜ r ≡ record { core = core; status = Done } ⌝ }
-{
-    Worked {
-        core: core,
-        status: Status::Done,
-    }
-}
-
 fn put_output(outputs: &mut [u8; 4], port: u8, bit: u8)
     ensures { λ _. ⌜ now (outputs .exit) ≡ setOutput (now (outputs .entry)) port bit ⌝ }
 {
@@ -56,18 +46,79 @@ fn put_output(outputs: &mut [u8; 4], port: u8, bit: u8)
     }
 }
 
-// The order to go to position 50, and that position.
-fn move_to(core: Core, values: &mut [i32; 103], w: Word) -> Core
-    ensures { λ r. ⌜ (r ≡ toPosition core) × (now (values .exit) ≡ setPosition (now (values .entry)) w) ⌝ }
+// What an effect does to the working values, the outputs and the cells.
+fn write(values: &mut [i32; 103], outputs: &mut [u8; 4], store: &mut [u8], effect: Effect)
+    ensures { λ _. ⌜ arrays (now (values .exit)) (now (outputs .exit)) (now (store .exit)) ≡ written effect (now (values .entry)) (now (outputs .entry)) (now (store .entry)) ⌝ }
 {
-    values::put_value(values, places::axis_place(50), w);
-    core.with_motion(Motion {
-        order: Order::Position,
-        velocity: Word { v: 0 },
-    })
+    match effect {
+        Effect::Refused(_status) => {}
+        Effect::Turn(_motion) => {}
+        Effect::Move(w) => values::put_value(values, places::axis_place(50), w),
+        Effect::Set(place, w) => values::put_value(values, place, w),
+        Effect::Global(place, w) => {
+            values::put_value(values, place, w);
+            store::put_cell(store, sheet::cell_of(place), w);
+        }
+        Effect::Store(place) => {
+            store::put_cell(
+                store,
+                sheet::cell_of(place),
+                values::value_at(values, place),
+            );
+        }
+        Effect::Restore(place) => {
+            values::put_value(values, place, values::powered_value(store, place));
+        }
+        Effect::Output(port, bit) => put_output(outputs, port, bit),
+        Effect::Numbers(_accumulator, _x) => {}
+        Effect::Last(_last) => {}
+        Effect::Clear(_flags) => {}
+    }
 }
 
-// Carries an effect out.
+// What it does to the scalars.
+fn change(core: Core, effect: Effect) -> Core
+    ensures { λ r. ⌜ r ≡ changed effect core ⌝ }
+{
+    match effect {
+        Effect::Refused(_status) => core,
+        Effect::Turn(motion) => core.with_motion(motion),
+        Effect::Move(_w) => core.with_motion(Motion {
+            order: Order::Position,
+            velocity: Word { v: 0 },
+        }),
+        Effect::Set(_place, _w) => core,
+        Effect::Global(_place, _w) => core,
+        Effect::Store(_place) => core,
+        Effect::Restore(_place) => core,
+        Effect::Output(_port, _bit) => core,
+        Effect::Numbers(accumulator, x) => core.with_numbers(accumulator, x),
+        Effect::Last(last) => core.with_last(last),
+        Effect::Clear(flags) => core.with_flags(flags),
+    }
+}
+
+// Its status: done, unless it is a refusal.
+fn status_of(effect: Effect) -> Status
+    ensures { λ r. ⌜ r ≡ statusOf effect ⌝ }
+{
+    match effect {
+        Effect::Refused(status) => status,
+        Effect::Turn(_motion) => Status::Done,
+        Effect::Move(_w) => Status::Done,
+        Effect::Set(_place, _w) => Status::Done,
+        Effect::Global(_place, _w) => Status::Done,
+        Effect::Store(_place) => Status::Done,
+        Effect::Restore(_place) => Status::Done,
+        Effect::Output(_port, _bit) => Status::Done,
+        Effect::Numbers(_accumulator, _x) => Status::Done,
+        Effect::Last(_last) => Status::Done,
+        Effect::Clear(_flags) => Status::Done,
+    }
+}
+
+// Carries an effect out. The scalars are changed apart from the arrays, so that the compiler keeps them
+// in machine registers.
 pub fn apply(
     core: Core,
     values: &mut [i32; 103],
@@ -77,40 +128,9 @@ pub fn apply(
 ) -> Worked
     ensures { λ r. ⌜ work r (now (values .exit)) (now (outputs .exit)) (now (store .exit)) ≡ applied effect core (now (values .entry)) (now (outputs .entry)) (now (store .entry)) ⌝ }
 {
-    match effect {
-        Effect::Refused(status) => Worked {
-            core: core,
-            status: status,
-        },
-        Effect::Turn(motion) => done(core.with_motion(motion)),
-        Effect::Move(w) => done(move_to(core, values, w)),
-        Effect::Set(place, w) => {
-            values::put_value(values, place, w);
-            done(core)
-        }
-        Effect::Global(place, w) => {
-            values::put_value(values, place, w);
-            store::put_cell(store, sheet::cell_of(place), w);
-            done(core)
-        }
-        Effect::Store(place) => {
-            store::put_cell(
-                store,
-                sheet::cell_of(place),
-                values::value_at(values, place),
-            );
-            done(core)
-        }
-        Effect::Restore(place) => {
-            values::put_value(values, place, values::powered_value(store, place));
-            done(core)
-        }
-        Effect::Output(port, bit) => {
-            put_output(outputs, port, bit);
-            done(core)
-        }
-        Effect::Numbers(accumulator, x) => done(core.with_numbers(accumulator, x)),
-        Effect::Last(last) => done(core.with_last(last)),
-        Effect::Clear(flags) => done(core.with_flags(flags)),
+    write(values, outputs, store, effect);
+    Worked {
+        core: change(core, effect),
+        status: status_of(effect),
     }
 }

@@ -30,7 +30,7 @@ use Rattle.calculating.specs.Calculate.{calculated}
 use Rattle.numbers.specs.Numbers.{intoAccumulator, calc, calcx, cleared, clear}
 use Rattle.judge.specs.Judge as judge
 use Rattle.pins.specs.Pins.{bitOf}
-use Rattle.deciding.specs.Deciding.{decided}
+use Rattle.deciding.specs.Deciding.{decidedBy, decided}
 use Rattle.keeping.proofs.Cores.{parts}
 use Rattle.keeping.proofs.Settings.{position-allowed, kept-allowed, set-allowed, move-allowed}
 use Rattle.keeping.proofs.Applied.{Good}
@@ -140,7 +140,7 @@ module _ (c : Command) (h : isDone (judge.judged c) ≡ true) where
 
 pub decided-good : (c : Command) (core : Core) (values : List ℤ) → isDone (judge.judged c) ≡ true → SFits w32 (c .value .v)
     → coreInRange core ≡ true → Good (decided c core values)
-unfolding decided
+unfolding decidedBy
 decided-good c core values h f g =
     let n = c .number in
     let v = c .value .v in

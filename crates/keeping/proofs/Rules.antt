@@ -2,7 +2,7 @@
 use Prim.Native.Nat.{ℕ, zero, suc, _+_, _*_}
 use native.Mathlib.Omega.{arith}
 use mathlib.Core.Path.{_≡_, refl}
-use mathlib.Core.Bool.{true, false}
+use mathlib.Core.Bool.{Bool, true, false}
 use mathlib.Core.List.{List}
 use lib.Dec.{leb}
 use lib.IntN.{ℤ, pos}
@@ -174,18 +174,18 @@ module _ (program : List ℕ) (p : Pins) where
       let r = recordAt program (x .core .address) in
       by-step p x P refl program (by-obeyed p x P refl r refl refl refl (λ _. worked-store r x))
 
-  run-sound : (n : ℕ) (x : Progress) → AllBytes program → Sound (x .state) → Sound (run program p n x .state)
+  run-sound : (alone : Bool) (n : ℕ) (x : Progress) → AllBytes program → Sound (x .state) → Sound (run alone program p n x .state)
   unfolding run
-  run-sound zero x b s = s
-  run-sound (suc n) x b s =
-      picked (λ (y : Progress). Sound (y .state)) (goesOn x) (run program p n (advanced program p x)) x
-      (λ _. run-sound n (advanced program p x) b (step-sound (x .state) b s)) s
+  run-sound alone zero x b s = s
+  run-sound alone (suc n) x b s =
+      picked (λ (y : Progress). Sound (y .state)) (goesOn alone x) (run alone program p n (advanced program p x)) x
+      (λ _. run-sound alone n (advanced program p x) b (step-sound (x .state) b s)) s
 
 pub laws : Laws
 laws =
     record {
       step-sound = step-sound;
-      run-sound = run-sound;
+      run-sound = λ alone program p. run-sound program p alone;
       direct-sound = λ c digital analog x. direct-sound c x digital analog;
       step-store = step-store;
       direct-store = λ c digital analog x. direct-store c x digital analog;

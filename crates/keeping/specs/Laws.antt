@@ -1,7 +1,7 @@
 -- What a user of steps, runs and direct commands relies on.
 use Prim.Native.Nat.{ℕ}
 use mathlib.Core.Path.{_≡_}
-use mathlib.Core.Bool.{false}
+use mathlib.Core.Bool.{Bool, false}
 use mathlib.Core.List.{List}
 use lib.IntN.{ℤ}
 use lib.ListN.{length}
@@ -21,8 +21,8 @@ left d e = state (d .core) e (d .values) (d .outputs) (d .store)
 pub record Laws : Type 0 where
   -- registers in range stay so: under a step and a run of a program of bytes, whatever they are, and under every direct command
   pub step-sound : (program : List ℕ) (p : Pins) (x : State) → AllBytes program → Sound x → Sound (step program p x .state)
-  pub run-sound : (program : List ℕ) (p : Pins) (n : ℕ) (x : Progress) → AllBytes program → Sound (x .state)
-      → Sound (run program p n x .state)
+  pub run-sound : (alone : Bool) (program : List ℕ) (p : Pins) (n : ℕ) (x : Progress) → AllBytes program → Sound (x .state)
+      → Sound (run alone program p n x .state)
   pub direct-sound : (c : Command) (digital : List ℕ) (analog : List ℤ) (x : State) → SFits w32 (c .value .v) → Sound x
       → Sound (left (directed c (x .core) (x .values) (x .outputs) digital analog (x .store)) (x .entries))
   -- no length of the parameter store changes

@@ -219,7 +219,7 @@ unfolding runs.run runs.gone
 run-in-range program budget r m b h =
     let l : keep-laws.Laws = keeping.laws in
     let P : runs.Answer → Type 0 = λ a. InRange (a .registers) in
-    let x = steps.run program (pinsOf r) budget (steps.begun (stateOf r m)) in
+    let x = steps.run false program (pinsOf r) budget (steps.begun (stateOf r m)) in
     let goes = runs.afterRun (runs.leftBy (steps.summary x) r) in
     let over = runs.answered (runs.refused Budget r) m in
     let out = runs.answered (runs.refused HandedIn r) m in
@@ -227,7 +227,7 @@ run-in-range program budget r m b h =
     (pick (registersInRange r) (pick (leb budget 1000) goes over) out) (runs.answered (runs.refused Length r) m)
     (λ _. picked P (registersInRange r) (pick (leb budget 1000) goes over) out
     (λ _. picked P (leb budget 1000) goes over
-    (λ _. with-state r (x .state) h (l .run-sound program (pinsOf r) budget (steps.begun (stateOf r m)) b (sound r m h))) h) h) h
+    (λ _. with-state r (x .state) h (l .run-sound false program (pinsOf r) budget (steps.begun (stateOf r m)) b (sound r m h))) h) h) h
 
 -- ---- one answer: each is found again by its number
 statusAt : ℕ → Status

@@ -1,6 +1,6 @@
 -- "A run has a budget of 0 to 1,000 steps"; "For the other events 20, then 23 (..), then .. 22"; "nothing changes, 0 steps".
 use Prim.Native.Nat.{ℕ}
-use mathlib.Core.Bool.{_&&_}
+use mathlib.Core.Bool.{false, _&&_}
 use mathlib.Core.List.{List}
 use lib.Dec.{eqb, leb}
 use lib.ListN.{length}
@@ -38,7 +38,7 @@ leftBy x r =
     left (record { registers = withState (x .state) r; ended = Last (x .status); steps = x .steps }) (x .state .store)
 
 unfoldable pub gone : List ℕ → ℕ → Registers → List ℕ → Left
-gone program budget r m = leftBy (summary (steps.run program (pinsOf r) budget (begun (stateOf r m)))) r
+gone program budget r m = leftBy (summary (steps.run false program (pinsOf r) budget (begun (stateOf r m)))) r
 
 -- registers, parameter store and the two numbers that are answered
 pub record Answer : Type 0 where

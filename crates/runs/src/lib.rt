@@ -52,6 +52,7 @@ fn go(registers: Registers, program: &[u8], store: &mut [u8], budget: usize) -> 
         store,
         program,
         budget,
+        false,
     );
     let there = ran.core;
     let status = ran.status;

@@ -2,7 +2,7 @@
 use Prim.Native.Nat.{ℕ, zero, suc, _+_, _≤_, _<_}
 use mathlib.Core.Path.{_≡_}
 use mathlib.Core.Logic.{_⊎_}
-use mathlib.Core.Bool.{true, false}
+use mathlib.Core.Bool.{Bool, true, false}
 use mathlib.Core.List.{List}
 use Rattle.stepping.specs.Step.{State, Pins, Progress, step, begun, advanced, goesOn, run}
 
@@ -13,22 +13,23 @@ walked program p (suc k) x = walked program p k (advanced program p x)
 
 -- k is a number of steps that a run of budget n makes: no more than the budget, each but the first from where the one before lets it go
 -- on, and none where the run ends
-pub record Makes (program : List ℕ) (p : Pins) (n : ℕ) (x : Progress) (k : ℕ) : Type 0 where
+pub record Makes (alone : Bool) (program : List ℕ) (p : Pins) (n : ℕ) (x : Progress) (k : ℕ) : Type 0 where
   pub within : k ≤ n
-  pub going : (j : ℕ) → j < k → goesOn (walked program p j x) ≡ true
-  pub ended : (k ≡ n) ⊎ (goesOn (walked program p k x) ≡ false)
+  pub going : (j : ℕ) → j < k → goesOn alone (walked program p j x) ≡ true
+  pub ended : (k ≡ n) ⊎ (goesOn alone (walked program p k x) ≡ false)
 
 pub record Laws : Type 0 where
   -- a run is as many single steps as it answers, and no other number is one that it makes
-  pub run-steps : (program : List ℕ) (p : Pins) (n : ℕ) (x : State)
-      → run program p n (begun x) ≡ walked program p (run program p n (begun x) .steps) (begun x)
-  pub run-makes : (program : List ℕ) (p : Pins) (n : ℕ) (x : State)
-      → Makes program p n (begun x) (run program p n (begun x) .steps)
-  pub run-only : (program : List ℕ) (p : Pins) (n : ℕ) (x : State) (k : ℕ) → Makes program p n (begun x) k
-      → k ≡ run program p n (begun x) .steps
+  pub run-steps : (alone : Bool) (program : List ℕ) (p : Pins) (n : ℕ) (x : State)
+      → run alone program p n (begun x) ≡ walked program p (run alone program p n (begun x) .steps) (begun x)
+  pub run-makes : (alone : Bool) (program : List ℕ) (p : Pins) (n : ℕ) (x : State)
+      → Makes alone program p n (begun x) (run alone program p n (begun x) .steps)
+  pub run-only : (alone : Bool) (program : List ℕ) (p : Pins) (n : ℕ) (x : State) (k : ℕ) → Makes alone program p n (begun x) k
+      → k ≡ run alone program p n (begun x) .steps
   -- a run of m and then of n is one of m + n
-  pub run-parts : (program : List ℕ) (p : Pins) (m n : ℕ) (x : Progress)
-      → run program p n (run program p m x) ≡ run program p (m + n) x
-  -- a run of one step is a step: its state and its status
+  pub run-parts : (alone : Bool) (program : List ℕ) (p : Pins) (m n : ℕ) (x : Progress)
+      → run alone program p n (run alone program p m x) ≡ run alone program p (m + n) x
+  -- a run of one is a step where the program runs; alone it is one whether or not it runs
   pub run-one : (program : List ℕ) (p : Pins) (x : State) → x .core .running ≡ true
-      → run program p 1 (begun x) ≡ advanced program p (begun x)
+      → run false program p 1 (begun x) ≡ advanced program p (begun x)
+  pub alone-one : (program : List ℕ) (p : Pins) (x : State) → run true program p 1 (begun x) ≡ advanced program p (begun x)

@@ -1,6 +1,6 @@
 -- "Program steps", and the run event's steps.
 use Prim.Native.Nat.{ℕ, zero, suc, _+_}
-use mathlib.Core.Bool.{Bool, false, not, _&&_}
+use mathlib.Core.Bool.{Bool, false, not, _&&_, _||_}
 use mathlib.Core.List.{List}
 use lib.Dec.{leb}
 use lib.IntN.{ℤ}
@@ -105,12 +105,13 @@ onward y n = record { state = y .state; status = y .status; steps = n + 1; held 
 abbrev pub advanced : List ℕ → Pins → Progress → Progress
 advanced program p x = onward (step program p (x .state)) (x .steps)
 
-abbrev pub goesOn : Progress → Bool
-goesOn x = not (x .held) && x .state .core .running
+-- alone: a step of 130, which needs no running program
+abbrev pub goesOn : Bool → Progress → Bool
+goesOn alone x = not (x .held) && (alone || x .state .core .running)
 
-unfoldable pub run : List ℕ → Pins → ℕ → Progress → Progress
-run program p zero x = x
-run program p (suc n) x = pick (goesOn x) (run program p n (advanced program p x)) x
+unfoldable pub run : Bool → List ℕ → Pins → ℕ → Progress → Progress
+run alone program p zero x = x
+run alone program p (suc n) x = pick (goesOn alone x) (run alone program p n (advanced program p x)) x
 
 -- what is answered of a run
 pub record Summary : Type 0 where

@@ -70,7 +70,7 @@ fn carry(
 }
 
 // One step at the present address.
-pub fn step(
+fn step(
     core: Core,
     entries: &mut [u16; 8],
     values: &mut [i32; 103],
@@ -113,7 +113,9 @@ pub struct Ran {
     pub steps: usize,
 }
 
-// Steps until the budget is used, the program is not running, or a WAIT holds.
+// Steps until the budget is used, the program is not running, or a WAIT holds. 130's step is made alone,
+// whether or not the program runs; the loop is the one place where `step` is called, so that the compiler
+// keeps the scalars in machine registers from step to step.
 pub fn run(
     core: Core,
     entries: &mut [u16; 8],
@@ -124,8 +126,9 @@ pub fn run(
     store: &mut [u8],
     program: &[u8],
     budget: usize,
+    alone: bool,
 ) -> Ran
-    ensures { λ r. ⌜ spec.ran r (now (entries .exit)) (now (values .exit)) (now (outputs .exit)) (now (store .exit)) ≡ spec.summary (spec.run (now (program .entry)) (spec.pins (now (digital .entry)) (now (analog .entry))) budget (spec.begun (spec.state core (now (entries .entry)) (now (values .entry)) (now (outputs .entry)) (now (store .entry))))) ⌝ }
+    ensures { λ r. ⌜ spec.ran r (now (entries .exit)) (now (values .exit)) (now (outputs .exit)) (now (store .exit)) ≡ spec.summary (spec.run alone (now (program .entry)) (spec.pins (now (digital .entry)) (now (analog .entry))) budget (spec.begun (spec.state core (now (entries .entry)) (now (values .entry)) (now (outputs .entry)) (now (store .entry))))) ⌝ }
 {
     let mut ran = Ran {
         core: core,
@@ -139,7 +142,7 @@ pub fn run(
         if held {
             return ran;
         }
-        if !at.running {
+        if !(alone | at.running) {
             return ran;
         }
         let steps = ran.steps + 1;

@@ -43,7 +43,7 @@ use Rattle.table.specs.Table.{Table}
 use Rattle.table.specs.Examples.{Examples}
 
 pub table : Table
-unfolding words-bytes.wordOf words-bytes.putWord wire-frame.putSeven wire-frame.frame checksum-checksum.rightFrame wrapping-wrap.wrap rows-row.allowed rows-row.taken sheet-line.lines sheet-rows.parameters sheet-rows.rows sheet-sheet.rweRows sheet-sheet.rwRows sheet-sheet.rRows sheet-sheet.axis sheet-sheet.globals sheet-sheet.readOnly store-store.written store-store.cellAt store-store.putCell store-store.recordAt store-store.putRecord values-examples.defaultCells values-values.valuesInRange values-values.poweredAt values-values.poweredValues ranges-range.entriesInRange ranges-range.bitsInRange ranges-range.eachUpTo registers-range.coreInRange registers-registers.raised registers-registers.ticked settings-settings.bankPlace settings-settings.settable settings-settings.kept settings-settings.isGlobal settings-settings.guarded settings-settings.locked calculating-calculate.calculated effects-effects.setOutput motion-motion.withinLimit motion-motion.rightWithin motion-motion.leftWithin motion-motion.moveBy motion-motion.moveTo assigning-assigning.assign assigning-assigning.take assigning-assigning.keep numbers-numbers.intoAccumulator numbers-numbers.calc numbers-numbers.calcx numbers-numbers.clear stack-stack.pushed stack-stack.popped jumping-jump.jumps jumping-jump.addressOf waiting-waiting.isOn waiting-waiting.happened waiting-waiting.tested waiting-waiting.waited flow-flow.jumped flow-flow.called flow-flow.returned flow-flow.halted flow-flow.waitedStep flow-flow.flowed judge-judge.writable judge-judge.storable judge-judge.sap judge-judge.has judge-judge.takes judge-judge.sgp judge-judge.judged judge-judge.isFlow judge-judge.isReading reading-reading.global reading-reading.digitalAt reading-reading.analogAt reading-reading.outputAt reading-reading.port reading-reading.read deciding-deciding.decided deciding-deciding.worked stepping-step.carried stepping-step.obeyed stepping-step.step stepping-step.run directing-direct.changed directing-direct.directed resetting-resetting.resetValues resetting-resetting.resetCells control-control.judged control-control.begun control-control.reset control-control.controlled control-control.shown control-control.answer sampling-sample.settingsInRange sampling-sample.settled sampling-sample.sampleInRange board-events.poweredUp board-events.sampled board-events.ticked board-range.registersInRange board-registers.unpowered board-registers.powered board-step.stepOnce commands-obey.stored commands-obey.direct commands-obey.placed commands-obey.defaults commands-obey.controlled commands-obey.obeyedControl commands-obey.obeyed serial-serial.takenOf datagrams-datagram.byteOf datagrams-datagram.addresses datagrams-datagram.replied datagrams-datagram.obeyedBy datagrams-datagram.received datagrams-datagram.datagram
+unfolding words-bytes.wordOf words-bytes.putWord wire-frame.putSeven wire-frame.frame checksum-checksum.rightFrame wrapping-wrap.wrap rows-row.allowed rows-row.taken sheet-line.lines sheet-rows.parameters sheet-rows.rows sheet-sheet.rweRows sheet-sheet.rwRows sheet-sheet.rRows sheet-sheet.axis sheet-sheet.globals sheet-sheet.readOnly store-store.written store-store.cellAt store-store.putCell store-store.recordAt store-store.putRecord values-examples.defaultCells values-values.valuesInRange values-values.poweredAt values-values.poweredValues ranges-range.entriesInRange ranges-range.bitsInRange ranges-range.eachUpTo registers-range.coreInRange registers-registers.raised registers-registers.ticked settings-settings.bankPlace settings-settings.settable settings-settings.kept settings-settings.isGlobal settings-settings.guarded settings-settings.locked calculating-calculate.calculated effects-effects.setOutput motion-motion.withinLimit motion-motion.rightWithin motion-motion.leftWithin motion-motion.moveBy motion-motion.moveTo assigning-assigning.assign assigning-assigning.take assigning-assigning.keep numbers-numbers.intoAccumulator numbers-numbers.calc numbers-numbers.calcx numbers-numbers.clear stack-stack.pushed stack-stack.popped jumping-jump.jumps jumping-jump.addressOf waiting-waiting.isOn waiting-waiting.happened waiting-waiting.tested waiting-waiting.waited flow-flow.jumped flow-flow.called flow-flow.returned flow-flow.halted flow-flow.waitedStep flow-flow.flowed judge-judge.writable judge-judge.storable judge-judge.sap judge-judge.has judge-judge.takes judge-judge.sgp judge-judge.judged judge-judge.isFlow judge-judge.isReading reading-reading.global reading-reading.digitalAt reading-reading.analogAt reading-reading.outputAt reading-reading.port reading-reading.read deciding-deciding.decidedBy deciding-deciding.worked stepping-step.carried stepping-step.obeyed stepping-step.step stepping-step.run directing-direct.changed directing-direct.directed resetting-resetting.resetValues resetting-resetting.resetCells control-control.judged control-control.begun control-control.reset control-control.controlled control-control.shown control-control.answer sampling-sample.settingsInRange sampling-sample.settled sampling-sample.sampleInRange board-events.poweredUp board-events.sampled board-events.ticked board-range.registersInRange board-registers.unpowered board-registers.powered board-step.stepOnce commands-obey.stored commands-obey.direct commands-obey.placed commands-obey.defaults commands-obey.controlled commands-obey.obeyedControl commands-obey.obeyed serial-serial.takenOf datagrams-datagram.byteOf datagrams-datagram.addresses datagrams-datagram.replied datagrams-datagram.obeyedBy datagrams-datagram.received datagrams-datagram.datagram
 table =
     record {
       line-1 = refl;
@@ -59,7 +59,7 @@ table =
     }
 
 pub examples : Examples
-unfolding words-bytes.wordOf words-bytes.putWord wire-frame.putSeven wire-frame.frame checksum-checksum.rightFrame wrapping-wrap.wrap rows-row.allowed rows-row.taken sheet-line.lines sheet-rows.parameters sheet-rows.rows sheet-sheet.rweRows sheet-sheet.rwRows sheet-sheet.rRows sheet-sheet.axis sheet-sheet.globals sheet-sheet.readOnly store-store.written store-store.cellAt store-store.putCell store-store.recordAt store-store.putRecord values-examples.defaultCells values-values.valuesInRange values-values.poweredAt values-values.poweredValues ranges-range.entriesInRange ranges-range.bitsInRange ranges-range.eachUpTo registers-range.coreInRange registers-registers.raised registers-registers.ticked settings-settings.bankPlace settings-settings.settable settings-settings.kept settings-settings.isGlobal settings-settings.guarded settings-settings.locked calculating-calculate.calculated effects-effects.setOutput motion-motion.withinLimit motion-motion.rightWithin motion-motion.leftWithin motion-motion.moveBy motion-motion.moveTo assigning-assigning.assign assigning-assigning.take assigning-assigning.keep numbers-numbers.intoAccumulator numbers-numbers.calc numbers-numbers.calcx numbers-numbers.clear stack-stack.pushed stack-stack.popped jumping-jump.jumps jumping-jump.addressOf waiting-waiting.isOn waiting-waiting.happened waiting-waiting.tested waiting-waiting.waited flow-flow.jumped flow-flow.called flow-flow.returned flow-flow.halted flow-flow.waitedStep flow-flow.flowed judge-judge.writable judge-judge.storable judge-judge.sap judge-judge.has judge-judge.takes judge-judge.sgp judge-judge.judged judge-judge.isFlow judge-judge.isReading reading-reading.global reading-reading.digitalAt reading-reading.analogAt reading-reading.outputAt reading-reading.port reading-reading.read deciding-deciding.decided deciding-deciding.worked stepping-step.carried stepping-step.obeyed stepping-step.step stepping-step.run directing-direct.changed directing-direct.directed resetting-resetting.resetValues resetting-resetting.resetCells control-control.judged control-control.begun control-control.reset control-control.controlled control-control.shown control-control.answer sampling-sample.settingsInRange sampling-sample.settled sampling-sample.sampleInRange board-events.poweredUp board-events.sampled board-events.ticked board-range.registersInRange board-registers.unpowered board-registers.powered board-step.stepOnce commands-obey.stored commands-obey.direct commands-obey.placed commands-obey.defaults commands-obey.controlled commands-obey.obeyedControl commands-obey.obeyed serial-serial.takenOf datagrams-datagram.byteOf datagrams-datagram.addresses datagrams-datagram.replied datagrams-datagram.obeyedBy datagrams-datagram.received datagrams-datagram.datagram
+unfolding words-bytes.wordOf words-bytes.putWord wire-frame.putSeven wire-frame.frame checksum-checksum.rightFrame wrapping-wrap.wrap rows-row.allowed rows-row.taken sheet-line.lines sheet-rows.parameters sheet-rows.rows sheet-sheet.rweRows sheet-sheet.rwRows sheet-sheet.rRows sheet-sheet.axis sheet-sheet.globals sheet-sheet.readOnly store-store.written store-store.cellAt store-store.putCell store-store.recordAt store-store.putRecord values-examples.defaultCells values-values.valuesInRange values-values.poweredAt values-values.poweredValues ranges-range.entriesInRange ranges-range.bitsInRange ranges-range.eachUpTo registers-range.coreInRange registers-registers.raised registers-registers.ticked settings-settings.bankPlace settings-settings.settable settings-settings.kept settings-settings.isGlobal settings-settings.guarded settings-settings.locked calculating-calculate.calculated effects-effects.setOutput motion-motion.withinLimit motion-motion.rightWithin motion-motion.leftWithin motion-motion.moveBy motion-motion.moveTo assigning-assigning.assign assigning-assigning.take assigning-assigning.keep numbers-numbers.intoAccumulator numbers-numbers.calc numbers-numbers.calcx numbers-numbers.clear stack-stack.pushed stack-stack.popped jumping-jump.jumps jumping-jump.addressOf waiting-waiting.isOn waiting-waiting.happened waiting-waiting.tested waiting-waiting.waited flow-flow.jumped flow-flow.called flow-flow.returned flow-flow.halted flow-flow.waitedStep flow-flow.flowed judge-judge.writable judge-judge.storable judge-judge.sap judge-judge.has judge-judge.takes judge-judge.sgp judge-judge.judged judge-judge.isFlow judge-judge.isReading reading-reading.global reading-reading.digitalAt reading-reading.analogAt reading-reading.outputAt reading-reading.port reading-reading.read deciding-deciding.decidedBy deciding-deciding.worked stepping-step.carried stepping-step.obeyed stepping-step.step stepping-step.run directing-direct.changed directing-direct.directed resetting-resetting.resetValues resetting-resetting.resetCells control-control.judged control-control.begun control-control.reset control-control.controlled control-control.shown control-control.answer sampling-sample.settingsInRange sampling-sample.settled sampling-sample.sampleInRange board-events.poweredUp board-events.sampled board-events.ticked board-range.registersInRange board-registers.unpowered board-registers.powered board-step.stepOnce commands-obey.stored commands-obey.direct commands-obey.placed commands-obey.defaults commands-obey.controlled commands-obey.obeyedControl commands-obey.obeyed serial-serial.takenOf datagrams-datagram.byteOf datagrams-datagram.addresses datagrams-datagram.replied datagrams-datagram.obeyedBy datagrams-datagram.received datagrams-datagram.datagram
 examples =
     record {
       set-store = refl;

@@ -1,92 +1,13 @@
 -- `effects::apply` meets its contract. Assumes nothing.
+use mathlib.Core.Path.{ap}
+use Rattle.effects.specs.Effects.{Arrays, together, statusOf, changed}
 use borrow.Author.Needs.{needs}
 use Rattle.effects.proofs.apply.Statement.{statement}
 use Rattle.effects.proofs.apply.Tie as tie
 
 returns : tie.Need-returns
-returns c = simp (c .before .effect .given .1)
-
-returns-2 : tie.Need-returns-2
-returns-2 c = simp (c .done .ensures, c .before .with-motion .ensures, c .before .before .before .effect2 .given .1)
-
-returns-3 : tie.Need-returns-3
-returns-3 c = simp (c .done2 .ensures, c .before .move-to .ensures .0, c .before .move-to .ensures .1, c .before .before .before .before .effect3 .given .1)
-
-returns-4 : tie.Need-returns-4
-returns-4 c = simp (c .done3 .ensures, c .before .put-value .ensures, c .before .before .before .before .effect4 .given .1)
-
-returns-5 : tie.Need-returns-5
-returns-5 c = simp (c .done4 .ensures, c .before .before .before .put-cell .ensures, c .before .before .before .before .cell-of .ensures, c .before .before .before .before .before .before .put-value2 .ensures, c .before .before .before .before .before .before .before .before .before .effect5 .given .1)
-
-returns-6 : tie.Need-returns-6
-returns-6 c = simp (c .done5 .ensures, c .before .before .before .put-cell2 .ensures, c .before .before .before .before .value-at .ensures, c .before .before .before .before .before .before .cell-of2 .ensures, c .before .before .before .before .before .before .before .before .before .effect6 .given .1)
-
-returns-7 : tie.Need-returns-7
-returns-7 c = simp (c .done6 .ensures, c .before .put-value3 .ensures, c .before .before .powered-value .ensures, c .before .before .before .before .before .before .effect7 .given .1)
-
-returns-8 : tie.Need-returns-8
-returns-8 c = simp (c .done7 .ensures, c .before .put-output .ensures, c .before .before .before .before .effect8 .given .1)
-
-returns-9 : tie.Need-returns-9
-returns-9 c = simp (c .done8 .ensures, c .before .with-numbers .ensures, c .before .before .before .effect9 .given .1)
-
-returns-10 : tie.Need-returns-10
-returns-10 c = simp (c .done9 .ensures, c .before .with-last .ensures, c .before .before .before .effect10 .given .1)
-
-returns-11 : tie.Need-returns-11
-returns-11 c = simp (c .done10 .ensures, c .before .with-flags .ensures, c .before .before .before .effect11 .given .1)
+returns c = let a = c .before .before .before .before .before .before .before .before .before .args in simp (c .status-of .ensures, c .before .change .ensures) (ap (λ (w : Arrays). together (statusOf (a .effect)) (changed (a .effect) (a .core)) w) (c .before .before .before .before .write .ensures))
 
 pub apply-spec : {M : Type 1} → statement M
 apply-spec =
-    tie.close
-    (tie.spec
-    (λ c. search needs)
-    (λ c. search needs)
-    (λ c κs. search needs)
-    (λ c κs. search needs)
-    (λ c. search needs)
-    (λ c κs. search needs)
-    (λ c κs. search needs)
-    (λ c. search needs)
-    (λ c κs. search needs)
-    (λ c κs. search needs)
-    (λ c. search needs)
-    (λ c κs. search needs)
-    (λ c κs. search needs)
-    (λ c κs. search needs)
-    (λ c κs. search needs)
-    (λ c. search needs)
-    (λ c κs. search needs)
-    (λ c κs. search needs)
-    (λ c κs. search needs)
-    (λ c κs. search needs)
-    (λ c. search needs)
-    (λ c κs. search needs)
-    (λ c κs. search needs)
-    (λ c κs. search needs)
-    (λ c. search needs)
-    (λ c κs. search needs)
-    (λ c κs. search needs)
-    (λ c. search needs)
-    (λ c κs. search needs)
-    (λ c κs. search needs)
-    (λ c. search needs)
-    (λ c κs. search needs)
-    (λ c κs. search needs)
-    (λ c. search needs)
-    (λ c κs. search needs)
-    (λ c κs. search needs)
-    returns
-    returns-2
-    returns-3
-    returns-4
-    (λ c. search needs)
-    returns-5
-    (λ c. search needs)
-    returns-6
-    (λ c. search needs)
-    returns-7
-    returns-8
-    returns-9
-    returns-10
-    returns-11)
+    tie.close (tie.spec (λ c κs. search needs) (λ c κs. search needs) (λ c κs. search needs) (λ c. search needs) returns)

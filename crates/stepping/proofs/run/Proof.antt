@@ -1,6 +1,7 @@
 -- `stepping::run` meets its contract: what is left to run from where the loop stands is the whole run. Assumes nothing.
 use Prim.Native.Nat.{_+_}
 use native.Mathlib.Omega.{arith}
+use mathlib.Core.Bool.{_||_}
 use mathlib.Core.Path.{_≡_, refl, sym, ap, _∙_}
 use lib.ListN.{length}
 use borrow.Author.Needs.{needs}
@@ -11,15 +12,15 @@ use Rattle.stepping.proofs.run.Statement.{statement}
 use Rattle.stepping.proofs.run.Tie as tie
 
 abbrev Inv-loop : tie.InvT-loop
-Inv-loop entries₀ values₀ outputs₀ digital analog store₀ program budget ran₀ left₀ held₀ entries values outputs store ran left held =
-    (run program (pins digital analog) left
+Inv-loop entries₀ values₀ outputs₀ digital analog store₀ program budget alone ran₀ left₀ held₀ entries values outputs store ran left held =
+    (run alone program (pins digital analog) left
     (record { state = state (ran .core) entries values outputs store; status = ran .status; steps = ran .steps; held = held })
-    ≡ run program (pins digital analog) budget (begun (state (ran₀ .core) entries₀ values₀ outputs₀ store₀)))
+    ≡ run alone program (pins digital analog) budget (begun (state (ran₀ .core) entries₀ values₀ outputs₀ store₀)))
     × (ran .steps + left ≡ budget)
     × (length store ≡ length store₀)
 
 abbrev μ-loop : tie.MeasureT-loop
-μ-loop entries₀ values₀ outputs₀ digital analog store₀ program budget ran₀ left₀ held₀ entries values outputs store ran left held = left
+μ-loop entries₀ values₀ outputs₀ digital analog store₀ program budget alone ran₀ left₀ held₀ entries values outputs store ran left held = left
 
 loop-holds : tie.Need-loop-holds Inv-loop μ-loop
 loop-holds c = (refl, omega arith, refl)
@@ -31,7 +32,7 @@ returns c =
     let a = l .before .before .before .args in
     let q = pins (a .digital .now) (a .analog .now) in
     let x : Progress = record { state = state (k .ran .core) (k .entries) (k .values) (k .outputs) (k .store); status = k .ran .status; steps = k .ran .steps; held = k .held } in
-    ap summary (sym (run-ends (a .program .now) q (k .left) x (simp (c .if1 .taken))) ∙ k .inv .0)
+    ap summary (sym (run-ends (a .alone) (a .program .now) q (k .left) x (simp (c .if1 .taken))) ∙ k .inv .0)
 
 returns-2 : tie.Need-returns-2 Inv-loop μ-loop
 returns-2 c =
@@ -41,7 +42,7 @@ returns-2 c =
     let a = l .before .before .before .args in
     let q = pins (a .digital .now) (a .analog .now) in
     let x : Progress = record { state = state (k .ran .core) (k .entries) (k .values) (k .outputs) (k .store); status = k .ran .status; steps = k .ran .steps; held = k .held } in
-    ap summary (sym (run-ends (a .program .now) q (k .left) x (simp (i .if1 .left, not-true (k .ran .core .running) (c .if2 .taken)))) ∙ k .inv .0)
+    ap summary (sym (run-ends (a .alone) (a .program .now) q (k .left) x (simp (i .if1 .left, not-true (a .alone || k .ran .core .running) (c .if2 .taken)))) ∙ k .inv .0)
 
 loop-again : tie.Need-loop-again Inv-loop μ-loop
 loop-again c =
@@ -53,7 +54,7 @@ loop-again c =
     let a = l .before .before .before .args in
     let q = pins (a .digital .now) (a .analog .now) in
     let x : Progress = record { state = state (k .ran .core) (k .entries) (k .values) (k .outputs) (k .store); status = k .ran .status; steps = k .ran .steps; held = k .held } in
-    (turned (a .program .now) q (k .left) x _ _ (s .step .ensures) (omega arith) (simp (i .if1 .left, not-false (k .ran .core .running) (j .if2 .left))) (k .inv .0), omega (arith, k .inv .1), c .before .before .before .store .given ∙ k .inv .2)
+    (turned (a .alone) (a .program .now) q (k .left) x _ _ (s .step .ensures) (omega arith) (simp (i .if1 .left, not-false (a .alone || k .ran .core .running) (j .if2 .left))) (k .inv .0), omega (arith, k .inv .1), c .before .before .before .store .given ∙ k .inv .2)
 
 returns-3 : tie.Need-returns-3 Inv-loop μ-loop
 returns-3 c =
@@ -62,7 +63,7 @@ returns-3 c =
     let a = l .before .before .before .args in
     let q = pins (a .digital .now) (a .analog .now) in
     let x : Progress = record { state = state (k .ran .core) (k .entries) (k .values) (k .outputs) (k .store); status = k .ran .status; steps = k .ran .steps; held = k .held } in
-    ap summary (sym (run-zero (a .program .now) q (k .left) x (omega arith)) ∙ k .inv .0)
+    ap summary (sym (run-zero (a .alone) (a .program .now) q (k .left) x (omega arith)) ∙ k .inv .0)
 
 pub run-spec : {M : Type 1} → statement M
 run-spec =

@@ -1,4 +1,4 @@
--- Setting, storing and restoring a working value.
+-- Setting and storing a working value.
 use Prim.Native.Nat.{ℕ}
 use mathlib.Core.Bool.{Bool, _&&_}
 use mathlib.Core.List.{List}

@@ -1,5 +1,5 @@
-// Setting, storing and restoring a working value: SAP and SGP, AAP and AGP, STAP and STGP, once the
-// judge has let them through.
+// Setting and storing a working value: SAP and SGP, AAP and AGP, STAP and STGP, once the judge has let
+// them through.
 ghost use mathlib.Core.Path.{_≡_};
 ghost use Rattle.assigning.specs.Assigning as spec;
 use effects::Effect;

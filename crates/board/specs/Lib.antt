@@ -1,4 +1,3 @@
 pub mod Registers
 pub mod Range
-pub mod Events
 pub mod Step

@@ -3,10 +3,9 @@
 use Prim.Native.Nat.{ℕ}
 use mathlib.Core.Bool.{Bool, _&&_}
 use mathlib.Core.List.{List}
-use lib.IntN.{ℤ}
 use Rattle.sheet.specs.Rows.{parameters}
 use Rattle.values.specs.Values.{valuesInRange}
-use Rattle.ranges.specs.Range.{entriesInRange, bitsInRange, analogInRange}
+use Rattle.ranges.specs.Range.{entriesInRange, pinsInRange}
 use Rattle.registers.specs.Range.{coreInRange, downloadInRange}
 use Rattle.registers.specs.declared.Core.{Core}
 use Rattle.registers.specs.declared.Download.{Download}
@@ -15,10 +14,6 @@ use Rattle.board.specs.declared.Registers.{Registers}
 -- address, depth and flags; write address; return addresses
 abbrev pub addressesInRange : Core → Download → List ℕ → Bool
 addressesInRange c d e = coreInRange c && downloadInRange d && entriesInRange e
-
--- outputs and inputs
-abbrev pub pinsInRange : List ℕ → List ℕ → List ℤ → Bool
-pinsInRange outputs digital analog = bitsInRange outputs && bitsInRange digital && analogInRange analog
 
 unfoldable pub registersInRange : Registers → Bool
 registersInRange r =

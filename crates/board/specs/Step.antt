@@ -1,9 +1,12 @@
--- One step of the program, over the registers whole.
+-- Steps of the program, over the registers whole.
 use Prim.Native.Nat.{ℕ}
+use mathlib.Core.Bool.{Bool}
 use mathlib.Core.List.{List}
 use Rattle.status.specs.declared.Status.{Status}
 use Rattle.stepping.specs.Step.{State, Pins, After, state, pins, step}
+use Rattle.running.specs.Run.{Summary, begun, run, summary}
 use Rattle.board.specs.declared.Registers.{Registers}
+use Rattle.board.specs.declared.Ran.{Ran}
 use Rattle.board.specs.declared.Turned.{Turned}
 
 -- what a step can change: registers and the parameter store; and what it reads beside
@@ -26,7 +29,23 @@ withState x r =
       values = x .values;
     }
 
--- registers and parameter store after a step, and its status
+-- ---- so many steps: registers and parameter store after them, the last one's status, and how many were made
+pub record Steps : Type 0 where
+  pub registers : Registers
+  pub store : List ℕ
+  pub status : Status
+  pub steps : ℕ
+
+abbrev pub ran : Ran → List ℕ → Steps
+ran x m = record { registers = x .registers; store = m; status = x .status; steps = x .steps }
+
+abbrev pub stepsOf : Summary → Registers → Steps
+stepsOf x r = record { registers = withState (x .state) r; store = x .state .store; status = x .status; steps = x .steps }
+
+unfoldable pub steps : Bool → List ℕ → ℕ → Registers → List ℕ → Steps
+steps alone program n r m = stepsOf (summary (run alone program (pinsOf r) n (begun (stateOf r m)))) r
+
+-- ---- one step, whether or not the program runs: registers and parameter store after it, and its status
 pub record Turn : Type 0 where
   pub registers : Registers
   pub store : List ℕ

@@ -1,14 +1,10 @@
-// The board: its registers, by value, and the events power-up, sample and tick.
-//
-// Each event hands the registers back with its answer. A refused event hands back the registers that
-// it was given.
+// The board's registers, by value: as power-up leaves them, whether they are in range, and the steps of
+// the program that they make.
 ghost use mathlib.Core.Path.{_≡_};
-ghost use Rattle.board.specs.Events.{outcomeOf, poweredUp, sampled, ticked};
-ghost use Rattle.board.specs.Registers.{unpowered, powered, withSample, withTick};
-ghost use Rattle.board.specs.Step.{turned, stepOnce};
+ghost use Rattle.board.specs.Registers.{unpowered, powered};
+ghost use Rattle.board.specs.Step.{ran, steps, turned, stepOnce};
 use registers::Core;
 use registers::Download;
-use sampling::Sample;
 use status::Status;
 use words::Word;
 
@@ -25,19 +21,11 @@ pub struct Registers {
     pub values: [i32; 103],
 }
 
-pub enum Answer {
-    Done,
-    // The lent store has another length.
-    Length,
-    // A field of the sample is out of range.
-    Field,
-    // The registers were handed in out of range.
-    HandedIn,
-}
-
-pub struct After {
+// What steps leave, the status of the last, and how many they are.
+pub struct Ran {
     pub registers: Registers,
-    pub answer: Answer,
+    pub status: Status,
+    pub steps: usize,
 }
 
 // What a step leaves, and its status.
@@ -81,40 +69,10 @@ impl Registers {
         }
     }
 
-    // With what a sample sets, and nothing else.
-    fn sampled(mut self, s: Sample) -> Self
-        ensures { λ r. ⌜ r ≡ withSample s self ⌝ }
-    {
-        let mut values = self.values;
-        let readings = s.readings;
-        let settings = readings.settings();
-        sampling::put_settings(&mut values, &settings);
-        let inputs = s.inputs;
-        let digital = inputs.digital();
-        let analog = inputs.analog();
-        let signals = s.signals;
-        let core = self.core;
-        let alarmed = core.alarmed(signals.alarms());
-        self.core = alarmed;
-        self.digital = digital;
-        self.analog = analog;
-        self.values = values;
-        self
-    }
-
-    // With one tick more of an armed wait, and nothing else.
-    fn ticked(mut self) -> Self
-        ensures { λ r. ⌜ r ≡ withTick self ⌝ }
-    {
-        let core = self.core;
-        let later = core.ticked();
-        self.core = later;
-        self
-    }
-
-    // One step of the program: the registers taken apart, the step made, and put together.
-    pub fn step(mut self, program: &[u8], store: &mut [u8]) -> Turned
-        ensures { λ r. ⌜ turned r (now (store .exit)) ≡ stepOnce (now (program .entry)) self (now (store .entry)) ⌝ }
+    // Steps of the program, as `running::run` makes them: the registers taken apart once, and put
+    // together once.
+    pub fn run(mut self, program: &[u8], store: &mut [u8], budget: usize, alone: bool) -> Ran
+        ensures { λ r. ⌜ ran r (now (store .exit)) ≡ steps alone (now (program .entry)) budget self (now (store .entry)) ⌝ }
     {
         let mut entries = self.entries;
         let mut values = self.values;
@@ -122,7 +80,7 @@ impl Registers {
         let digital = self.digital;
         let analog = self.analog;
         let core = self.core;
-        let ran = stepping::run(
+        let ran = running::run(
             core,
             &mut entries,
             &mut values,
@@ -131,8 +89,8 @@ impl Registers {
             &analog,
             store,
             program,
-            1,
-            true,
+            budget,
+            alone,
         );
         let there = ran.core;
         let status = ran.status;
@@ -140,63 +98,23 @@ impl Registers {
         self.entries = entries;
         self.values = values;
         self.outputs = outputs;
-        Turned {
+        Ran {
             registers: self,
             status: status,
+            steps: ran.steps,
         }
     }
 
-    // Power-up, lent the parameter store.
-    pub fn power_up(self, store: &[u8]) -> After
-        ensures { λ r. ⌜ outcomeOf r ≡ poweredUp (now (store .entry)) self ⌝ }
+    // One step of the program, whether or not it runs.
+    pub fn step(self, program: &[u8], store: &mut [u8]) -> Turned
+        ensures { λ r. ⌜ turned r (now (store .exit)) ≡ stepOnce (now (program .entry)) self (now (store .entry)) ⌝ }
     {
-        if store.len() != 364 {
-            return After {
-                registers: self,
-                answer: Answer::Length,
-            };
-        }
-        After {
-            registers: Registers::powered(store),
-            answer: Answer::Done,
-        }
-    }
-
-    // A sample. Registers out of range are refused before a field is looked at.
-    pub fn sample(self, s: Sample) -> After
-        ensures { λ r. ⌜ outcomeOf r ≡ sampled s self ⌝ }
-    {
-        if !self.in_range() {
-            return After {
-                registers: self,
-                answer: Answer::HandedIn,
-            };
-        }
-        if !s.in_range() {
-            return After {
-                registers: self,
-                answer: Answer::Field,
-            };
-        }
-        After {
-            registers: self.sampled(s),
-            answer: Answer::Done,
-        }
-    }
-
-    // 10 ms more.
-    pub fn tick(self) -> After
-        ensures { λ r. ⌜ outcomeOf r ≡ ticked self ⌝ }
-    {
-        if !self.in_range() {
-            return After {
-                registers: self,
-                answer: Answer::HandedIn,
-            };
-        }
-        After {
-            registers: self.ticked(),
-            answer: Answer::Done,
+        let ran = self.run(program, store, 1, true);
+        let after = ran.registers;
+        let status = ran.status;
+        Turned {
+            registers: after,
+            status: status,
         }
     }
 }

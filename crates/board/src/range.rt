@@ -1,6 +1,6 @@
 // Whether registers that are handed in are in range.
 ghost use mathlib.Core.Path.{_≡_};
-ghost use Rattle.board.specs.Range.{addressesInRange, pinsInRange, registersInRange};
+ghost use Rattle.board.specs.Range.{addressesInRange, registersInRange};
 use crate::Registers;
 use registers::Core;
 use registers::Download;
@@ -17,18 +17,6 @@ fn addresses_in_range(core: Core, download: Download, entries: &[u16; 8]) -> boo
     ranges::entries_in_range(entries)
 }
 
-fn pins_in_range(outputs: &[u8; 4], digital: &[u8; 2], analog: &[i32; 3]) -> bool
-    ensures { λ r. ⌜ r ≡ pinsInRange (now (outputs .entry)) (now (digital .entry)) (now (analog .entry)) ⌝ }
-{
-    if !ranges::bits_in_range(outputs) {
-        return false;
-    }
-    if !ranges::bits_in_range(digital) {
-        return false;
-    }
-    ranges::analog_in_range(analog)
-}
-
 impl Registers {
     // Whether all is in range that 23 names.
     pub fn in_range(self) -> bool
@@ -41,7 +29,7 @@ impl Registers {
         let outputs = self.outputs;
         let digital = self.digital;
         let analog = self.analog;
-        if !pins_in_range(&outputs, &digital, &analog) {
+        if !ranges::pins_in_range(&outputs, &digital, &analog) {
             return false;
         }
         let values = self.values;

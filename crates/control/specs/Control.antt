@@ -11,7 +11,8 @@ use Rattle.wire.specs.declared.Command.{Command}
 use Rattle.order.specs.Order.{sameW}
 use Rattle.store.specs.Store.{recordAt}
 use Rattle.stack.specs.Stack.{emptied}
-use Rattle.registers.specs.Registers.{withWait, withDepth, withRunning, moved, stopped, droppedWait}
+use Rattle.registers.specs.Registers.{withWait, withDepth, withRunning, moved, stopped}
+use Rattle.waits.specs.Waits.{droppedWait}
 use Rattle.registers.specs.declared.Core.{Core}
 use Rattle.registers.specs.declared.Download.{Download}
 use Rattle.jumping.specs.Jump.{isAddress, addressOf}
@@ -23,15 +24,16 @@ use Rattle.control.specs.declared.Controlled.{Controlled}
 
 -- ---- refusals
 -- "137 value 1234", "255 value 1234"
-abbrev pub isKey : ℤ → Bool
-isKey z = sameW z (pos 1234)
+abbrev pub is1234 : ℤ → Bool
+is1234 z = sameW z (pos 1234)
 
 -- "129 run (type 0 from the present address; type 1 from value 0..1,023 ..)"
 abbrev pub begins : ℕ → ℤ → Bool
 begins kind z = pick (eqb kind 0) true (isAddress z)
 
 -- "130 one step (6 if running ..)", "132 .. at value 0..1,023 (.. 6 if running)", "134 .. type 0 .., type 1 ..; address in value,
--- 0..1,023", "137 .. (6 if running)", "In download mode 129 and 130 get 6"; "While locked, 5 goes to .. 132, 137"
+-- 0..1,023", "137 .. (6 if running)", "In download mode 129 and 130 get 6"; "While locked, 5 goes to .. 132, 137". The five tests:
+-- available (6), motor (4), type (3), value (4), lock (5).
 unfoldable pub judged : Command → Bool → Bool → Bool → Status
 judged c running downloading locked =
     pick (eqb (c .number) 128) Done
@@ -42,8 +44,8 @@ judged c running downloading locked =
     (pick (eqb (c .number) 133) Done
     (pick (eqb (c .number) 134) (inOrder true true (leb (c .kind) 1) (isAddress (c .value .v)) true)
     (pick (eqb (c .number) 135) Done
-    (pick (eqb (c .number) 137) (inOrder (not running) true true (isKey (c .value .v)) (not locked))
-    (pick (eqb (c .number) 255) (inOrder true true true (isKey (c .value .v)) true)
+    (pick (eqb (c .number) 137) (inOrder (not running) true true (is1234 (c .value .v)) (not locked))
+    (pick (eqb (c .number) 255) (inOrder true true true (is1234 (c .value .v)) true)
     Unknown)))))))))
 
 -- ---- what is left of the scalars, the download and the stack
@@ -87,7 +89,7 @@ ended d = record { on = false; address = d .address }
 abbrev pub started : ℤ → Download
 started z = record { on = true; address = addressOf z }
 
--- "128 stop (address and stack kept, wait dropped)", 129, 131, 132, "133 end it"
+-- "128 stop (address and stack kept, wait dropped)", 129, 131, 132, "133 end it (100 if none)"
 unfoldable pub controlled : Command → Core → Download → List ℕ → Outcome
 controlled c core d e =
     pick (eqb (c .number) 128) (with (placed (stopped core) e) d)
@@ -99,12 +101,12 @@ controlled c core d e =
 
 -- ---- what is read
 -- "134 read the program store (type 0 the record's value, type 1 command x 65,536 + type x 256 + motor; address in value ..)"
-abbrev pub recordBytes : Command → Word
-recordBytes r = word (ofBits (r .number * 65536 + r .kind * 256 + r .motor))
+abbrev pub headOf : Command → Word
+headOf r = word (ofBits (r .number * 65536 + r .kind * 256 + r .motor))
 
 unfoldable pub shown : ℕ → ℤ → List ℕ → Word
 shown kind z program =
-    pick (eqb kind 0) (recordAt program (addressOf z) .value) (recordBytes (recordAt program (addressOf z)))
+    pick (eqb kind 0) (recordAt program (addressOf z) .value) (headOf (recordAt program (addressOf z)))
 
 -- 134, "135 running 0/1", else "the value sent"
 unfoldable pub answer : Command → Bool → List ℕ → Word

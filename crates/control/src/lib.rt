@@ -1,5 +1,5 @@
 // The control commands, which a program does not have: their refusals, and what 128, 129, 131, 132,
-// 133, 134 and 135 do. 130 is a step, 137 and 255 are defaults and power-up; they stand above.
+// 133, 134 and 135 do. 130 is a step, 137 and 255 are defaults and power-up; they stand in `controlling`.
 ghost use mathlib.Core.Path.{_≡_};
 ghost use Prim.Native.Nat.{_<_};
 ghost use Rattle.control.specs.Control as spec;
@@ -10,9 +10,9 @@ use status::in_order;
 use wire::Command;
 use words::Word;
 
-// Whether a value is the key to 137 and 255.
-fn is_key(value: Word) -> bool
-    ensures { λ r. ⌜ r ≡ spec.isKey (value .v) ⌝ }
+// Whether a value is that of 137 and 255.
+fn is_1234(value: Word) -> bool
+    ensures { λ r. ⌜ r ≡ spec.is1234 (value .v) ⌝ }
 {
     order::equals(value, Word { v: 1234 })
 }
@@ -44,8 +44,8 @@ pub fn judge(c: Command, running: bool, downloading: bool, locked: bool) -> Stat
         133 => Status::Done,
         134 => in_order(true, true, kind <= 1, jumping::is_address(value), true),
         135 => Status::Done,
-        137 => in_order(!running, true, true, is_key(value), !locked),
-        255 => in_order(true, true, true, is_key(value), true),
+        137 => in_order(!running, true, true, is_1234(value), !locked),
+        255 => in_order(true, true, true, is_1234(value), true),
         _ => Status::Unknown,
     }
 }
@@ -117,7 +117,7 @@ pub fn control(c: Command, core: Core, download: Download, entries: &mut [u16; 8
             download: ended(download),
         },
         132 => Controlled {
-            core: core.with_wait(registers::Wait::dropped()),
+            core: core.with_wait(waits::Wait::dropped()),
             download: Download {
                 on: true,
                 address: jumping::address_of(value),

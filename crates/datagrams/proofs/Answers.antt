@@ -5,8 +5,9 @@ use mathlib.Core.List.{List}
 use Rattle.wire.specs.declared.Command.{Command}
 use Rattle.status.specs.Status.{numberOf}
 use Rattle.commands.specs.Obey.{Outcome, obeyed}
-use Rattle.datagrams.specs.Datagram.{Board, board, addresses, replied, afterObeying, obeyedBy}
-use Rattle.datagrams.specs.declared.Addresses.{Addresses}
+use Rattle.replying.specs.Reply.{addresses, replied}
+use Rattle.datagrams.specs.Datagram.{Board, board, afterObeying, obeyedBy}
+use Rattle.replying.specs.declared.Addresses.{Addresses}
 
 pub together : (o : Outcome) (x : Board) (c : Command) (a : Addresses) (b : List ℕ)
     → o ≡ obeyed c (x .registers) (x .program) (x .store)

@@ -3,17 +3,11 @@ use Prim.Native.Nat.{ℕ}
 use mathlib.Core.Bool.{Bool, _&&_}
 use mathlib.Core.List.{List}
 use lib.Dec.{eqb}
-use lib.IntN.{ℤ, pos}
+use lib.IntN.{pos}
 use lib.ListN.{length}
 use Rattle.words.specs.Word.{pick, word}
-use Rattle.words.specs.Bytes.{fourOf}
-use Rattle.words.specs.declared.Word.{Word}
-use Rattle.wire.specs.Frame.{replyFrame}
 use Rattle.wire.specs.declared.Command.{Command}
-use Rattle.values.specs.Values.{valueAt}
-use Rattle.settings.specs.Settings.{bankPlace}
 use Rattle.status.specs.Status.{numberOf}
-use Rattle.status.specs.declared.Status.{Status}
 use Rattle.status.specs.declared.Status.the-variants.{Checksum}
 use Rattle.serial.specs.Serial.{takenOf}
 use Rattle.serial.specs.declared.Taken.{Taken}
@@ -21,7 +15,7 @@ use Rattle.serial.specs.declared.Taken.the-variants.{NotOurs, Damaged, Whole}
 use Rattle.board.specs.Range.{registersInRange}
 use Rattle.board.specs.declared.Registers.{Registers}
 use Rattle.commands.specs.Obey.{Outcome, obeyed}
-use Rattle.datagrams.specs.declared.Addresses.{Addresses}
+use Rattle.replying.specs.Reply.{byteOf, addresses, replied}
 use Rattle.datagrams.specs.declared.Answer.{Answer}
 use Rattle.datagrams.specs.declared.Answer.the-variants.{Nothing, Length, HandedIn, Replied}
 use Rattle.datagrams.specs.declared.Answered.{Answered}
@@ -54,21 +48,6 @@ left a p m b = record { board = board (a .registers) p m b; status = answerStatu
 -- nothing changes
 abbrev pub unchanged : ℕ → Board → After
 unchanged n x = record { board = x; status = n }
-
--- "reply address (global 76), module address (global 66)"
-unfoldable pub byteOf : List ℤ → ℕ → ℕ
-byteOf values n = fourOf (valueAt values (bankPlace 0 n) .v) .b0
-
-unfoldable pub addresses : List ℤ → Addresses
-addresses values = record { «reply_address» = byteOf values 76; «module_address» = byteOf values 66 }
-
--- the nine bytes, in a buffer that has nine
-abbrev pub frameOf : Addresses → Status → ℕ → Word → List ℕ
-frameOf a s n w =
-    replyFrame (record { «reply_address» = a .«reply_address»; «module_address» = a .«module_address»; status = numberOf s; command = n; value = w })
-
-unfoldable pub replied : List ℕ → Addresses → Status → ℕ → Word → List ℕ
-replied b a s n w = pick (eqb (length b) 9) (frameOf a s n w) b
 
 -- "Both addresses are those before the command."
 abbrev pub afterObeying : Outcome → Command → Board → After

@@ -5,7 +5,6 @@ use board::Registers;
 use serial::Taken;
 use status::Status;
 use wire::Command;
-use wire::Reply;
 use words::Word;
 
 // What is answered to a datagram.
@@ -23,45 +22,6 @@ pub enum Answer {
 pub struct Answered {
     pub registers: Registers,
     pub answer: Answer,
-}
-
-// The two addresses of a reply.
-pub struct Addresses {
-    pub reply_address: u8,
-    pub module_address: u8,
-}
-
-// A global of 0 to 255 as a byte.
-fn byte_of(values: &[i32; 103], number: u8) -> u8
-    ensures { λ r. ⌜ r ≡ spec.byteOf (now (values .entry)) number ⌝ }
-{
-    let four = words::four_of(values::value_at(values, settings::bank_place(0, number)));
-    four.b0
-}
-
-fn from_values(values: &[i32; 103]) -> Addresses
-    ensures { λ r. ⌜ r ≡ spec.addresses (now (values .entry)) ⌝ }
-{
-    Addresses {
-        reply_address: byte_of(values, 76),
-        module_address: byte_of(values, 66),
-    }
-}
-
-// Writes a reply of nine bytes.
-fn reply_with(reply: &mut [u8], from: Addresses, status: Status, number: u8, value: Word)
-    ensures { λ _. ⌜ now (reply .exit) ≡ spec.replied (now (reply .entry)) from status number value ⌝ }
-{
-    serial::put_reply(
-        reply,
-        Reply {
-            reply_address: from.reply_address,
-            module_address: from.module_address,
-            status: status.number(),
-            command: number,
-            value: value,
-        },
-    );
 }
 
 // Whether the lent memory has its three lengths.
@@ -88,12 +48,12 @@ fn obey(
     ensures { λ r. ⌜ spec.left r (now (program .exit)) (now (store .exit)) (now (reply .exit)) ≡ spec.obeyedBy c (spec.board registers (now (program .entry)) (now (store .entry)) (now (reply .entry))) ⌝ }
 {
     let values = registers.values;
-    let from = from_values(&values);
+    let from = replying::from_values(&values);
     let obeyed = commands::obey(registers, program, store, c);
     let after = obeyed.registers;
     let status = obeyed.status;
     let value = obeyed.value;
-    reply_with(reply, from, status, c.number, value);
+    replying::reply_with(reply, from, status, c.number, value);
     Answered {
         registers: after,
         answer: Answer::Replied(status),
@@ -117,8 +77,8 @@ fn receive(
         },
         Taken::Damaged(number) => {
             let values = registers.values;
-            let from = from_values(&values);
-            reply_with(reply, from, Status::Checksum, number, Word { v: 0 });
+            let from = replying::from_values(&values);
+            replying::reply_with(reply, from, Status::Checksum, number, Word { v: 0 });
             Answered {
                 registers: registers,
                 answer: Answer::Replied(Status::Checksum),
@@ -151,6 +111,6 @@ pub fn datagram(
         };
     }
     let values = registers.values;
-    let taken = serial::take_command(bytes, byte_of(&values, 66));
+    let taken = serial::take_command(bytes, replying::byte_of(&values, 66));
     receive(registers, program, store, reply, taken)
 }

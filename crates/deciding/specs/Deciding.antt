@@ -1,4 +1,4 @@
--- What a command of direct mode that changes something does, by its number, once the judge has let it through.
+-- What a command that changes something does, in direct mode or in a step, by its number, once the judge has let it through.
 use Prim.Native.Nat.{ℕ}
 use mathlib.Core.List.{List}
 use lib.Dec.{eqb}
@@ -9,7 +9,7 @@ use Rattle.wire.specs.declared.Command.{Command}
 use Rattle.order.specs.Order.{comparedW}
 use Rattle.settings.specs.Settings.{axisPlace, bankPlace}
 use Rattle.registers.specs.declared.Core.{Core}
-use Rattle.registers.specs.declared.Flags.{Flags}
+use Rattle.flags.specs.declared.Flags.{Flags}
 use Rattle.pins.specs.Pins.{bitOf}
 use Rattle.effects.specs.Effects.{Work, applied}
 use Rattle.effects.specs.declared.Effect.{Effect}
@@ -38,6 +38,7 @@ decidedBy c accumulator x flags values =
     (pick (eqb (c .number) 33) (calcx (c .kind) accumulator x)
     (pick (eqb (c .number) 34) (take (axisPlace (c .kind)) accumulator values)
     (pick (eqb (c .number) 35) (take (bankPlace (c .motor) (c .kind)) accumulator values)
+    -- 36
     (clear (c .kind) flags))))))))))))))))
 
 -- from the accumulator, X and the flags

@@ -1,12 +1,12 @@
-// What a command of direct mode that changes something does, decided by the command, the scalars and
-// the working values, once the judge has let it through; and done.
+// What a command that changes something does, in direct mode or in a step, decided by the command, the
+// scalars and the working values, once the judge has let it through; and done.
 ghost use mathlib.Core.Path.{_≡_};
 ghost use Rattle.effects.specs.Effects.{work};
 ghost use Rattle.deciding.specs.Deciding.{decidedBy, worked};
 use effects::Effect;
 use effects::Worked;
+use flags::Flags;
 use registers::Core;
-use registers::Flags;
 use wire::Command;
 use words::Word;
 

@@ -54,6 +54,8 @@ pub record Arrays : Type 0 where
 abbrev pub arrays : List ℤ → List ℕ → List ℕ → Arrays
 arrays v o m = record { values = v; outputs = o; store = m }
 
+-- Move: MVP and setting 50. Set: SAP and AAP, and SGP and AGP of bank 2. Global: "all RW and written to their cells at once". Store:
+-- STAP and STGP. Restore: "RSAP and RSGP take the cell as power-up does". Output: SIO. The others change no array.
 abbrev pub written : Effect → List ℤ → List ℕ → List ℕ → Arrays
 written (Refused s) v o m = arrays v o m
 written (Turn motion) v o m = arrays v o m

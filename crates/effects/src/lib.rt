@@ -2,9 +2,9 @@
 // refusal is one of these effects, and changes nothing.
 ghost use mathlib.Core.Path.{_≡_};
 ghost use Rattle.effects.specs.Effects.{setOutput, work, arrays, written, changed, statusOf, applied};
+use flags::Flags;
 use order::Compared;
 use registers::Core;
-use registers::Flags;
 use registers::Motion;
 use registers::Order;
 use status::Status;

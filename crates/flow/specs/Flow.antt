@@ -56,15 +56,15 @@ returned c e =
 unfoldable pub halted : Core → Flow
 halted c = flow (at Done (withDepth (emptied .depth) (withRunning false (moved 0 c)))) (emptied .entries)
 
--- ETO set
-abbrev pub passedWait : Core → Core
-passedWait c = withFlags (record { eto = 1; eal = c .flags .eal; edv = c .flags .edv; epo = c .flags .epo }) c
+-- "then setting ETO"
+abbrev pub timedOut : Core → Core
+timedOut c = withFlags (record { eto = 1; eal = c .flags .eal; edv = c .flags .edv; epo = c .flags .epo }) c
 
 -- "Passing drops the wait and raises the address by one"; "A holding WAIT has status 100"
 abbrev pub afterWait : Waited → Core → Flowed
 afterWait Refused c = refused Value c
 afterWait Passed c = at Done (next c)
-afterWait TimedOut c = at Done (next (passedWait c))
+afterWait TimedOut c = at Done (next (timedOut c))
 afterWait (Holding w) c = at Done (withWait w c)
 
 unfoldable pub waitedStep : ℕ → Word → Core → List ℤ → Flowed
@@ -78,4 +78,5 @@ flowed r c e values =
     (pick (eqb (r .number) 23) (called (r .value .v) c e)
     (pick (eqb (r .number) 24) (returned c e)
     (pick (eqb (r .number) 27) (flow (waitedStep (r .kind) (r .value) c values) e)
+    -- 28
     (halted c)))))

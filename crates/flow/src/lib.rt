@@ -1,9 +1,9 @@
 // The commands that only a program has: jumps, calls and returns, WAIT and STOP. The judge has let the
 // record through.
 ghost use mathlib.Core.Path.{_≡_};
-ghost use Rattle.flow.specs.Flow.{flow, refused, jumped, called, returned, halted, passedWait, waitedStep, flowed};
+ghost use Rattle.flow.specs.Flow.{flow, refused, jumped, called, returned, halted, timedOut, waitedStep, flowed};
+use flags::Flags;
 use registers::Core;
-use registers::Flags;
 use status::Status;
 use waiting::Waited;
 use wire::Command;
@@ -16,7 +16,7 @@ pub struct Flowed {
 }
 
 // A step that is refused goes to the next record.
-pub fn refused(core: Core, status: Status) -> Flowed
+fn refused(core: Core, status: Status) -> Flowed
     ensures { λ r. ⌜ r ≡ refused status core ⌝ }
 {
     let there = core.next();
@@ -96,7 +96,7 @@ fn halt(core: Core, entries: &mut [u16; 8]) -> Flowed
 
 // ETO set, and nothing else.
 fn timed_out(core: Core) -> Core
-    ensures { λ r. ⌜ r ≡ passedWait core ⌝ }
+    ensures { λ r. ⌜ r ≡ timedOut core ⌝ }
 {
     let flags = core.flags;
     core.with_flags(Flags {

@@ -1,23 +1,9 @@
 // The one judge: what the seven bytes of a command decide by themselves. Direct mode and a program's
 // steps ask it before they look at the registers.
 ghost use mathlib.Core.Path.{_≡_};
-ghost use Rattle.judge.specs.Judge.{byBytes, judged, isFlow, isReading};
-
-mod axis;
-mod globals;
-mod numbers;
-mod ports;
-mod targets;
-
+ghost use Rattle.judge.specs.Judge.{judged, isFlow, isReading};
 use status::Status;
 use wire::Command;
-
-// What the bytes decide: motor or bank, then type, then value.
-fn by_bytes(motor: bool, kind: bool, value: bool) -> Status
-    ensures { λ r. ⌜ r ≡ byBytes motor kind value ⌝ }
-{
-    status::in_order(true, motor, kind, value, true)
-}
 
 // The status that a command gets whatever the registers are; done where only they can refuse it.
 pub fn judge(c: Command) -> Status
@@ -25,32 +11,32 @@ pub fn judge(c: Command) -> Status
 {
     let number = c.number;
     match number {
-        1 => axis::motor_alone(c),
-        2 => axis::motor_alone(c),
-        3 => axis::motor_alone(c),
-        4 => axis::mvp(c),
-        5 => axis::sap(c),
-        6 => axis::gap(c),
-        7 => axis::stap(c),
-        8 => axis::stap(c),
-        9 => globals::sgp(c),
-        10 => globals::ggp(c),
-        11 => globals::stgp(c),
-        12 => globals::stgp(c),
-        14 => ports::sio(c),
-        15 => ports::gio(c),
-        19 => numbers::calc(c),
+        1 => fields::axis::motor_alone(c),
+        2 => fields::axis::motor_alone(c),
+        3 => fields::axis::motor_alone(c),
+        4 => fields::axis::mvp(c),
+        5 => fields::axis::sap(c),
+        6 => fields::axis::gap(c),
+        7 => fields::axis::stap(c),
+        8 => fields::axis::stap(c),
+        9 => fields::globals::sgp(c),
+        10 => fields::globals::ggp(c),
+        11 => fields::globals::stgp(c),
+        12 => fields::globals::stgp(c),
+        14 => fields::ports::sio(c),
+        15 => fields::ports::gio(c),
+        19 => fields::numbers::calc(c),
         20 => Status::Done,
-        21 => targets::jc(c),
-        22 => targets::ja(c),
-        23 => targets::ja(c),
+        21 => fields::targets::jc(c),
+        22 => fields::targets::ja(c),
+        23 => fields::targets::ja(c),
         24 => Status::Done,
-        27 => targets::wait(c),
+        27 => fields::targets::wait(c),
         28 => Status::Done,
-        33 => numbers::calcx(c),
-        34 => axis::aap(c),
-        35 => globals::agp(c),
-        36 => numbers::cle(c),
+        33 => fields::numbers::calcx(c),
+        34 => fields::axis::aap(c),
+        35 => fields::globals::agp(c),
+        36 => fields::numbers::cle(c),
         _ => Status::Unknown,
     }
 }

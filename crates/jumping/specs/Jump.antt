@@ -7,7 +7,7 @@ use Rattle.words.specs.Word.{pick, bitsOf}
 use Rattle.order.specs.Order.{sameW, inRange}
 use Rattle.order.specs.declared.Compared.{Compared}
 use Rattle.order.specs.declared.Compared.the-variants.{Less, Equal, Greater}
-use Rattle.registers.specs.declared.Flags.{Flags}
+use Rattle.flags.specs.declared.Flags.{Flags}
 
 abbrev pub isLess : Compared → Bool
 isLess Less = true

@@ -12,7 +12,8 @@ use Rattle.store.proofs.Places.{cell-length}
 use Rattle.values.specs.Values.{valueAt, setValue}
 use Rattle.values.proofs.Rules.{set-length, set-in-range}
 use Rattle.ranges.specs.Range.{bitInRange, bitsInRange}
-use Rattle.registers.specs.Range.{flagsInRange, coreInRange}
+use Rattle.registers.specs.Range.{coreInRange}
+use Rattle.flags.specs.Flags.{flagsInRange}
 use Rattle.registers.specs.declared.Core.{Core}
 use Rattle.settings.specs.Settings.{axisPlace}
 use Rattle.status.specs.Status.{isDone}

@@ -9,10 +9,11 @@ use lib.Dec.{ltb, leb}
 use Rattle.words.proofs.Bools.{each, picked}
 use Rattle.ranges.specs.Range.{every, addressInRange, bitInRange, bitsInRange}
 use Rattle.registers.specs.Registers.{withFlags, moved, next, nextAddress, stopped}
-use Rattle.registers.specs.Range.{flagsInRange, coreInRange}
-use Rattle.registers.specs.declared.Flags.{Flags}
+use Rattle.registers.specs.Range.{coreInRange}
+use Rattle.flags.specs.Flags.{flagsInRange}
+use Rattle.flags.specs.declared.Flags.{Flags}
 use Rattle.registers.specs.declared.Core.{Core}
-use Rattle.flow.specs.Flow.{passedWait}
+use Rattle.flow.specs.Flow.{timedOut}
 
 pub record Parts (c : Core) : Type 0 where
   pub address : c .address ≤ 1024
@@ -49,9 +50,9 @@ module _ (c : Core) (h : coreInRange c ≡ true) where
   pub flags-in-range : (f : Flags) → flagsInRange f ≡ true → coreInRange (withFlags f c) ≡ true
   flags-in-range f g = whole (withFlags f c) (record { address = parts .address; depth = parts .depth; flags = g })
 
-  pub passed-in-range : coreInRange (passedWait c) ≡ true
+  pub passed-in-range : coreInRange (timedOut c) ≡ true
   unfolding bitsInRange
   passed-in-range =
       let f = c .flags in
-      flags-in-range (passedWait c .flags)
+      flags-in-range (timedOut c .flags)
       (each (bitInRange (f .eto)) (every bitInRange (f .eal ∷ f .edv ∷ f .epo ∷ [])) (parts .flags) .1)

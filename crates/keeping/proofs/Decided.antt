@@ -14,8 +14,9 @@ use Rattle.words.proofs.Bools.{each, picked}
 use Rattle.wire.specs.declared.Command.{Command}
 use Rattle.order.specs.Order.{sameW, comparedW}
 use Rattle.ranges.specs.Range.{every, bitInRange, bitsInRange}
-use Rattle.registers.specs.Range.{flagsInRange, coreInRange}
-use Rattle.registers.specs.declared.Flags.{Flags}
+use Rattle.registers.specs.Range.{coreInRange}
+use Rattle.flags.specs.Flags.{flagsInRange}
+use Rattle.flags.specs.declared.Flags.{Flags}
 use Rattle.registers.specs.declared.Core.{Core}
 use Rattle.settings.specs.Settings.{axisPlace, bankPlace, settable, kept, isGlobal, locked}
 use Rattle.status.specs.Status.{isDone}
@@ -28,6 +29,7 @@ use Rattle.assigning.specs.Assigning.{shut, assign, take, keep}
 use Rattle.dividing.specs.Divide.{Answer}
 use Rattle.calculating.specs.Calculate.{calculated}
 use Rattle.numbers.specs.Numbers.{intoAccumulator, calc, calcx, cleared, clear}
+use Rattle.fields.specs.Fields as fields
 use Rattle.judge.specs.Judge as judge
 use Rattle.pins.specs.Pins.{bitOf}
 use Rattle.deciding.specs.Deciding.{decidedBy, decided}
@@ -121,7 +123,7 @@ bit-good : (z : ℤ) → bitInRange (bitOf z) ≡ true
 bit-good z = picked (λ n. bitInRange n ≡ true) (sameW z (pos 1)) 1 0 (λ _. refl) refl
 
 -- ---- what the judge has let through may be set
-by-bytes : (motor kind value : Bool) → isDone (judge.byBytes motor kind value) ≡ true → value ≡ true
+by-bytes : (motor kind value : Bool) → isDone (fields.byBytes motor kind value) ≡ true → value ≡ true
 by-bytes true true true h = refl
 by-bytes true true false h = h
 by-bytes true false value h = absurd (false≢true h)
@@ -129,14 +131,14 @@ by-bytes false kind value h = absurd (false≢true h)
 
 module _ (c : Command) (h : isDone (judge.judged c) ≡ true) where
   axis-settable : c .number ≡ 5 → settable (axisPlace (c .kind)) (c .value .v) ≡ true
-  unfolding judge.judged judge.sap
+  unfolding judge.judged fields.sap
   axis-settable e =
-      by-bytes (judge.motorZero c) (judge.writable (c .kind)) (settable (axisPlace (c .kind)) (c .value .v)) (rw e at h)
+      by-bytes (fields.motorZero c) (fields.writable (c .kind)) (settable (axisPlace (c .kind)) (c .value .v)) (rw e at h)
 
   bank-settable : c .number ≡ 9 → settable (bankPlace (c .motor) (c .kind)) (c .value .v) ≡ true
-  unfolding judge.judged judge.sgp
+  unfolding judge.judged fields.sgp
   bank-settable e =
-      by-bytes (judge.isBank (c .motor)) (judge.takes (c .motor) (c .kind)) (settable (bankPlace (c .motor) (c .kind)) (c .value .v)) (rw e at h)
+      by-bytes (fields.isBank (c .motor)) (fields.takes (c .motor) (c .kind)) (settable (bankPlace (c .motor) (c .kind)) (c .value .v)) (rw e at h)
 
 pub decided-good : (c : Command) (core : Core) (values : List ℤ) → isDone (judge.judged c) ≡ true → SFits w32 (c .value .v)
     → coreInRange core ≡ true → Good (decided c core values)

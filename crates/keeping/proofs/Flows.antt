@@ -26,7 +26,7 @@ use Rattle.jumping.specs.Jump.{jumps, addressOf}
 use Rattle.waiting.specs.Waiting.{waited}
 use Rattle.waiting.specs.declared.Waited.{Waited}
 use Rattle.waiting.specs.declared.Waited.the-variants.{Refused, Passed, TimedOut, Holding}
-use Rattle.flow.specs.Flow.{Flow, flow, at, refused, jumped, called, returned, halted, passedWait, afterWait, waitedStep, flowed}
+use Rattle.flow.specs.Flow.{Flow, flow, at, refused, jumped, called, returned, halted, timedOut, afterWait, waitedStep, flowed}
 use Rattle.flow.specs.declared.Flowed.{Flowed}
 use Rattle.keeping.proofs.Elements.{every-set, every-get}
 use Rattle.keeping.proofs.Cores.{whole, parts, moved-in-range, next-low, next-in-range, passed-in-range}
@@ -75,7 +75,7 @@ module _ (c : Core) (h : coreInRange c ≡ true) where
   unfolding coreInRange
   wait-in-range Refused = next-in-range c h
   wait-in-range Passed = next-in-range c h
-  wait-in-range TimedOut = next-in-range (passedWait c) (passed-in-range c h)
+  wait-in-range TimedOut = next-in-range (timedOut c) (passed-in-range c h)
   wait-in-range (Holding w) = h
 
   waited-in-range : (kind : ℕ) (value : Word) (values : List ℤ) → coreInRange (waitedStep kind value c values .core) ≡ true

@@ -28,7 +28,8 @@ use Rattle.flow.specs.Flow.{flowed}
 use Rattle.reading.specs.Reading.{read}
 use Rattle.effects.specs.Effects.{Work}
 use Rattle.deciding.specs.Deciding.{decided, worked}
-use Rattle.stepping.specs.Step.{State, Pins, After, Progress, after, only, loaded, afterFlow, afterWork, carried, obeyed, step, advanced, goesOn, run}
+use Rattle.stepping.specs.Step.{State, Pins, After, after, only, loaded, afterFlow, afterWork, carried, obeyed, step}
+use Rattle.running.specs.Run.{Progress, advanced, goesOn, run}
 use Rattle.directing.specs.Direct as directing
 use Rattle.directing.specs.Direct.{Direct, direct, refused, answered, answer, changed, directed}
 use Rattle.keeping.specs.Sound.{Sound}

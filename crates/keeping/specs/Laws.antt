@@ -10,7 +10,8 @@ use mir.Val.{SFits}
 use Rattle.words.specs.Laws.{AllBytes}
 use Rattle.wire.specs.declared.Command.{Command}
 use Rattle.status.specs.Status.{isDone}
-use Rattle.stepping.specs.Step.{State, Pins, Progress, state, step, run}
+use Rattle.stepping.specs.Step.{State, Pins, state, step}
+use Rattle.running.specs.Run.{Progress, run}
 use Rattle.directing.specs.Direct.{Direct, directed}
 use Rattle.keeping.specs.Sound.{Sound}
 

@@ -5,7 +5,7 @@ use Rattle.words.specs.Word.{pick, word}
 use Rattle.words.specs.declared.Word.{Word}
 use Rattle.dividing.specs.Divide.{Answer}
 use Rattle.calculating.specs.Calculate.{calculated}
-use Rattle.registers.specs.declared.Flags.{Flags}
+use Rattle.flags.specs.declared.Flags.{Flags}
 use Rattle.status.specs.declared.Status.the-variants.{Value}
 use Rattle.effects.specs.declared.Effect.{Effect}
 use Rattle.effects.specs.declared.Effect.the-variants.{Refused, Numbers, Clear}

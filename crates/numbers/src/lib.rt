@@ -4,7 +4,7 @@ ghost use Rattle.dividing.specs.Divide.{answerOf};
 ghost use Rattle.numbers.specs.Numbers as spec;
 use dividing::Divided;
 use effects::Effect;
-use registers::Flags;
+use flags::Flags;
 use status::Status;
 use words::Word;
 

@@ -6,7 +6,7 @@ use lib.IntN.{ℤ, pos}
 use Rattle.words.specs.Word.{pick}
 use Rattle.order.specs.Order.{sameW}
 use Rattle.ranges.specs.Range.{eachUpTo, analogInRange}
-use Rattle.registers.specs.declared.Alarms.{Alarms}
+use Rattle.flags.specs.declared.Alarms.{Alarms}
 use Rattle.pins.specs.declared.Inputs.{Inputs}
 use Rattle.pins.specs.declared.Signals.{Signals}
 

@@ -12,7 +12,7 @@ ghost use Rattle.pins.specs.Pins.{
   analogOf,
   alarmsOf,
 };
-use registers::Alarms;
+use flags::Alarms;
 use words::Word;
 
 pub struct Inputs {

@@ -9,15 +9,16 @@ use Rattle.values.specs.Values.{valuesInRange, poweredAt, poweredValues}
 use Rattle.values.specs.Examples.{defaultCells}
 use Rattle.ranges.specs.Range.{entriesInRange, bitsInRange, eachUpTo}
 use Rattle.registers.specs.Range.{coreInRange}
-use Rattle.registers.specs.Registers as reg
+use Rattle.flags.specs.Flags as flags
+use Rattle.waits.specs.Waits as waits
 use Rattle.sampling.specs.Sample.{settingsInRange, settled, sampleInRange}
 use Rattle.board.specs.Registers.{unpowered, powered}
 use Rattle.board.specs.Range.{registersInRange}
-use Rattle.board.specs.Events.{poweredUp, sampled, ticked}
+use Rattle.events.specs.Events.{poweredUp, sampled, ticked}
 use Rattle.promises.specs.Examples.{Examples, begun}
 
 pub examples : Examples
-unfolding wordOf allowed taken rows parameters axis globals rweRows rwRows rRows written cellAt putCell valuesInRange poweredAt poweredValues defaultCells coreInRange entriesInRange bitsInRange eachUpTo reg.ticked reg.raised settingsInRange settled sampleInRange powered registersInRange poweredUp sampled ticked begun unpowered
+unfolding wordOf allowed taken rows parameters axis globals rweRows rwRows rRows written cellAt putCell valuesInRange poweredAt poweredValues defaultCells coreInRange entriesInRange bitsInRange eachUpTo waits.ticked flags.raised settingsInRange settled sampleInRange powered registersInRange poweredUp sampled ticked begun unpowered
 examples =
     record {
       default-cells = refl;

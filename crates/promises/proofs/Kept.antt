@@ -16,7 +16,8 @@ use Rattle.words.proofs.Bools.{is-true, picked}
 use Rattle.wire.specs.declared.Command.{Command}
 use Rattle.store.specs.Store.{putRecord}
 use Rattle.ranges.specs.Range.{entriesInRange}
-use Rattle.registers.specs.Registers.{withRunning, withWait, stopped, droppedWait}
+use Rattle.registers.specs.Registers.{withRunning, withWait, stopped}
+use Rattle.waits.specs.Waits.{droppedWait}
 use Rattle.registers.specs.Range.{coreInRange, downloadInRange}
 use Rattle.registers.specs.Laws as reg-laws
 use Rattle.registers.proofs.Kept as registers
@@ -40,7 +41,10 @@ use Rattle.directing.specs.Direct.{directed}
 use Rattle.board.specs.Registers.{powered}
 use Rattle.board.specs.Step.{stateOf, pinsOf, withState, stepOnce}
 use Rattle.board.specs.declared.Registers.{Registers}
-use Rattle.commands.specs.Obey.{Kept, Changed, Both, Outcome, kept, changed, both, done, refused, withDownload, stored, direct, withPlace, placed, defaults, controlled, judgedControl, afterControl, afterTurn, obeyedControl, outcome, obeyed}
+use Rattle.commands.specs.Obey.{Outcome, direct, outcome, obeyed}
+use Rattle.controlling.specs.Controlling.{Both, both, withPlace, placed, defaults, controlled, judgedControl, afterControl, afterTurn, obeyedControl}
+use Rattle.outcomes.specs.Outcome.{Changed, changed, done, refused}
+use Rattle.storing.specs.Storing.{Kept, kept, withDownload, stored}
 use Rattle.promises.specs.Commands.{InRange}
 use Rattle.promises.proofs.Rules.{parts, whole, powered-in-range}
 

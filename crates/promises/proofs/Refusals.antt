@@ -23,7 +23,7 @@ use Rattle.store.specs.Store.{putRecord}
 use Rattle.judge.specs.Judge.{judged, isFlow, isReading}
 use Rattle.reading.specs.Reading.{read}
 use Rattle.deciding.specs.Deciding.{worked}
-use Rattle.stepping.specs.Step as steps
+use Rattle.running.specs.Run as running
 use Rattle.stepping.specs.Step.{State}
 use Rattle.directing.specs.Direct as directing
 use Rattle.directing.specs.Direct.{Direct, directed, changed}
@@ -34,15 +34,19 @@ use Rattle.serial.specs.declared.Taken.{Taken}
 use Rattle.serial.specs.declared.Taken.the-variants.{NotOurs, Damaged, Whole}
 use Rattle.control.specs.Control as control
 use Rattle.board.specs.Range.{registersInRange}
-use Rattle.board.specs.Step.{stateOf, pinsOf, withState, stepOnce}
+use Rattle.board.specs.Step.{stateOf, pinsOf, withState, stepsOf, steps, stepOnce}
 use Rattle.board.specs.declared.Registers.{Registers}
-use Rattle.commands.specs.Obey as obey
-use Rattle.commands.specs.Obey.{Kept, Changed, Outcome, kept, done, refused, withDownload, stored, direct, controlled, judgedControl, afterControl, obeyedControl, outcome, obeyed}
+use Rattle.commands.specs.Obey.{Outcome, direct, outcome, obeyed}
+use Rattle.controlling.specs.Controlling.{controlled, judgedControl, afterControl, obeyedControl}
+use Rattle.outcomes.specs.Outcome as outcomes
+use Rattle.outcomes.specs.Outcome.{Changed, done, refused}
+use Rattle.storing.specs.Storing.{Kept, kept, withDownload, stored}
 use Rattle.runs.specs.Run as runs
 use Rattle.runs.specs.declared.Ended.{Ended}
 use Rattle.runs.specs.declared.Ended.the-variants.{Length, HandedIn, Budget, Last}
 use Rattle.runs.specs.declared.Ran.{Ran}
-use Rattle.datagrams.specs.Datagram.{Board, After, board, lent, byteOf, unchanged, addresses, replied, left, answerStatus, obeyedBy, received, datagram}
+use Rattle.datagrams.specs.Datagram.{Board, After, board, lent, unchanged, left, answerStatus, obeyedBy, received, datagram}
+use Rattle.replying.specs.Reply.{byteOf, addresses, replied}
 use Rattle.datagrams.specs.declared.Answer as answers
 use Rattle.datagrams.specs.declared.Answer.{Answer}
 use Rattle.datagrams.specs.declared.Answered.{Answered}
@@ -109,7 +113,7 @@ module _ (c : Command) (r : Registers) (p m : List ℕ) where
   control-refused =
       let s = judgedControl c r in
       picked (λ (o : Changed). Refused (outcome (o .obeyed) p (o .store))) (isDone s)
-      (afterControl s (control.answer c (r .core .running) p) (controlled c p r m)) (obey.changed (refused s r) m)
+      (afterControl s (control.answer c (r .core .running) p) (controlled c p r m)) (outcomes.changed (refused s r) m)
       (λ e f. absurd (done-carried s e f)) (λ _. refl)
 
   stored-refused : Refused (outcome (stored c r p .obeyed) (stored c r p .program) m)
@@ -215,19 +219,19 @@ datagram-in-range bytes x a b h =
 -- ---- runs
 run-in-range : (program : List ℕ) (budget : ℕ) (r : Registers) (m : List ℕ) → AllBytes program → InRange r
     → InRange (runs.run program budget r m .registers)
-unfolding runs.run runs.gone
+unfolding runs.run steps
 run-in-range program budget r m b h =
     let l : keep-laws.Laws = keeping.laws in
     let P : runs.Answer → Type 0 = λ a. InRange (a .registers) in
-    let x = steps.run false program (pinsOf r) budget (steps.begun (stateOf r m)) in
-    let goes = runs.afterRun (runs.leftBy (steps.summary x) r) in
+    let x = running.run false program (pinsOf r) budget (running.begun (stateOf r m)) in
+    let goes = runs.afterSteps (stepsOf (running.summary x) r) in
     let over = runs.answered (runs.refused Budget r) m in
     let out = runs.answered (runs.refused HandedIn r) m in
     picked P (eqb (length program) 7168 && eqb (length m) 364)
     (pick (registersInRange r) (pick (leb budget 1000) goes over) out) (runs.answered (runs.refused Length r) m)
     (λ _. picked P (registersInRange r) (pick (leb budget 1000) goes over) out
     (λ _. picked P (leb budget 1000) goes over
-    (λ _. with-state r (x .state) h (l .run-sound false program (pinsOf r) budget (steps.begun (stateOf r m)) b (sound r m h))) h) h) h
+    (λ _. with-state r (x .state) h (l .run-sound false program (pinsOf r) budget (running.begun (stateOf r m)) b (sound r m h))) h) h) h
 
 -- ---- one answer: each is found again by its number
 statusAt : ℕ → Status

@@ -19,7 +19,7 @@ use Rattle.values.specs.Values.{valueAt, valuesInRange, poweredAt}
 use Rattle.values.proofs.Rules as values
 use Rattle.ranges.specs.Range.{entriesInRange, bitsInRange, analogInRange}
 use Rattle.registers.specs.Range.{coreInRange, downloadInRange}
-use Rattle.registers.specs.Registers as reg
+use Rattle.waits.specs.Waits as waits
 use Rattle.registers.specs.Laws as reg-laws
 use Rattle.registers.proofs.Kept as registers
 use Rattle.stack.specs.Stack.{stack, emptied}
@@ -27,13 +27,15 @@ use Rattle.pins.specs.Pins.{alarmsOf}
 use Rattle.sampling.specs.Sample.{sampleInRange}
 use Rattle.sampling.specs.declared.Sample.{Sample}
 use Rattle.sampling.proofs.Rules as sampling
-use Rattle.board.specs.Registers.{powered, withSample, withTick}
-use Rattle.board.specs.Range.{addressesInRange, pinsInRange, registersInRange}
-use Rattle.board.specs.Events.{Outcome, outcome, statusOf, poweredUp, sampled, ticked}
+use Rattle.board.specs.Registers.{powered}
+use Rattle.events.specs.Events.{withSample, withTick}
+use Rattle.board.specs.Range.{addressesInRange, registersInRange}
+use Rattle.ranges.specs.Range.{pinsInRange}
+use Rattle.events.specs.Events.{Outcome, outcome, statusOf, poweredUp, sampled, ticked}
 use Rattle.promises.specs.Laws.{OneOutcome, Laws}
 use Rattle.board.specs.declared.Registers.{Registers}
-use Rattle.board.specs.declared.Answer.{Answer}
-use Rattle.board.specs.declared.Answer.the-variants.{Done, Length, Field, HandedIn}
+use Rattle.events.specs.declared.Answer.{Answer}
+use Rattle.events.specs.declared.Answer.the-variants.{Done, Length, Field, HandedIn}
 
 -- ---- the seven tests that make up the range of registers
 pub record Parts (r : Registers) : Type 0 where
@@ -93,7 +95,7 @@ module _ (r : Registers) (p : Parts r) where
   with-tick =
       let l : reg-laws.Laws = registers.laws in
       record {
-        core = l .wait-in-range (reg.ticked (r .core .wait)) (r .core) ∙ p .core;
+        core = l .wait-in-range (waits.ticked (r .core .wait)) (r .core) ∙ p .core;
         download = p .download;
         entries = p .entries;
         outputs = p .outputs;

@@ -15,10 +15,12 @@ use Rattle.serial.specs.declared.Taken.the-variants.{NotOurs}
 use Rattle.board.specs.Range.{registersInRange}
 use Rattle.board.specs.Step.{stepOnce}
 use Rattle.board.specs.declared.Registers.{Registers}
-use Rattle.commands.specs.Obey.{done, refused, outcome, obeyed}
+use Rattle.commands.specs.Obey.{outcome, obeyed}
+use Rattle.outcomes.specs.Outcome.{done, refused}
 use Rattle.runs.specs.Run as runs
 use Rattle.runs.specs.declared.Ran.{Ran}
-use Rattle.datagrams.specs.Datagram.{Board, board, left, byteOf, datagram}
+use Rattle.datagrams.specs.Datagram.{Board, board, left, datagram}
+use Rattle.replying.specs.Reply.{byteOf}
 use Rattle.datagrams.specs.declared.Answered.{Answered}
 
 -- a command was carried out: done, or put in program memory

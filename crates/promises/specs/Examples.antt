@@ -13,11 +13,11 @@ use Rattle.store.specs.Store.{putCell}
 use Rattle.values.specs.Values.{valueAt}
 use Rattle.values.specs.Examples.{defaultsOf, defaultCells, badCells}
 use Rattle.registers.specs.Registers.{poweredCore, noDownload}
-use Rattle.registers.specs.declared.Wait.{Wait}
-use Rattle.registers.specs.declared.Flags.{Flags}
+use Rattle.waits.specs.declared.Wait.{Wait}
+use Rattle.flags.specs.declared.Flags.{Flags}
 use Rattle.sampling.specs.declared.Sample.{Sample}
 use Rattle.board.specs.Registers.{unpowered, powered}
-use Rattle.board.specs.Events.{outcome, poweredUp, sampled, ticked}
+use Rattle.events.specs.Events.{outcome, poweredUp, sampled, ticked}
 use Rattle.board.specs.declared.Registers.{Registers}
 
 -- ---- registers: power-up's on the default cells, with some parts changed

@@ -13,9 +13,9 @@ use Rattle.stack.specs.Stack.{stack, emptied}
 use Rattle.sampling.specs.declared.Sample.{Sample}
 use Rattle.board.specs.Registers.{powered}
 use Rattle.board.specs.Range.{registersInRange}
-use Rattle.board.specs.Events.{outcome, outcomeOf, poweredUp, sampled, ticked}
+use Rattle.events.specs.Events.{outcome, outcomeOf, poweredUp, sampled, ticked}
 use Rattle.board.specs.declared.Registers.{Registers}
-use Rattle.board.specs.declared.After.{After}
+use Rattle.events.specs.declared.After.{After}
 
 -- an event's answer is known by its registers and its number
 abbrev pub OneOutcome : Type 0

@@ -35,3 +35,7 @@ eachUpTo high numbers = every (λ z. inRange (pos 0) high z) numbers
 -- the analog inputs
 abbrev pub analogInRange : List ℤ → Bool
 analogInRange analog = eachUpTo (pos 65535) analog
+
+-- outputs and inputs
+abbrev pub pinsInRange : List ℕ → List ℕ → List ℤ → Bool
+pinsInRange outputs digital analog = bitsInRange outputs && bitsInRange digital && analogInRange analog

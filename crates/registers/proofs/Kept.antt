@@ -6,13 +6,16 @@ use native.Mathlib.Omega.{arith}
 use borrow.Author.Tests.{lt-ltb, le-ltb}
 use lib.Dec.{T, ltb, leb}
 use Rattle.words.specs.Word.{pick}
-use Rattle.registers.specs.Registers.{withFlags, raisedFlag, raised, counted, ticked, poweredCore}
+use Rattle.registers.specs.Registers.{withFlags, poweredCore}
+use Rattle.waits.specs.Waits.{counted, ticked}
+use Rattle.flags.specs.Flags.{raisedFlag, raised}
 use Rattle.ranges.specs.Range.{addressInRange, bitInRange, entriesInRange, bitsInRange, eachUpTo}
-use Rattle.registers.specs.Range.{flagsInRange, coreInRange}
+use Rattle.registers.specs.Range.{coreInRange}
+use Rattle.flags.specs.Flags.{flagsInRange}
 use Rattle.registers.specs.Laws.{Laws}
-use Rattle.registers.specs.declared.Flags.{Flags}
-use Rattle.registers.specs.declared.Alarms.{Alarms}
-use Rattle.registers.specs.declared.Wait.{Wait}
+use Rattle.flags.specs.declared.Flags.{Flags}
+use Rattle.flags.specs.declared.Alarms.{Alarms}
+use Rattle.waits.specs.declared.Wait.{Wait}
 use Rattle.registers.specs.declared.Core.{Core}
 use Rattle.words.proofs.Bools.{both}
 

@@ -5,12 +5,15 @@ use mathlib.Core.Bool.{Bool, true, false}
 use lib.Dec.{T}
 use lib.IntN.{pos}
 use lib.ListN.{replicate}
-use Rattle.registers.specs.Registers.{withWait, withFlags, raised, counted, ticked, poweredCore, noDownload}
+use Rattle.registers.specs.Registers.{withWait, withFlags, poweredCore, noDownload}
+use Rattle.waits.specs.Waits.{counted, ticked}
+use Rattle.flags.specs.Flags.{raised}
 use Rattle.ranges.specs.Range.{entriesInRange, bitsInRange, analogInRange}
-use Rattle.registers.specs.Range.{flagsInRange, coreInRange, downloadInRange}
-use Rattle.registers.specs.declared.Flags.{Flags}
-use Rattle.registers.specs.declared.Alarms.{Alarms}
-use Rattle.registers.specs.declared.Wait.{Wait}
+use Rattle.registers.specs.Range.{coreInRange, downloadInRange}
+use Rattle.flags.specs.Flags.{flagsInRange}
+use Rattle.flags.specs.declared.Flags.{Flags}
+use Rattle.flags.specs.declared.Alarms.{Alarms}
+use Rattle.waits.specs.declared.Wait.{Wait}
 use Rattle.registers.specs.declared.Core.{Core}
 
 pub record Laws : Type 0 where

@@ -1,15 +1,11 @@
--- Registers in range. The others are answered 23: "registers handed in with an address, write address or return address above
--- 1,024, a depth above 8, or a parameter, input, output or flag out of range".
+-- The scalars in range. The others are answered 23: ".. an address, write address .. above 1,024, a depth above 8, or a .. flag out of
+-- range".
 use mathlib.Core.Bool.{Bool, _&&_}
-use mathlib.Core.List.{[], _∷_}
 use lib.Dec.{leb}
-use Rattle.ranges.specs.Range.{addressInRange, bitsInRange}
-use Rattle.registers.specs.declared.Flags.{Flags}
+use Rattle.ranges.specs.Range.{addressInRange}
+use Rattle.flags.specs.Flags.{flagsInRange}
 use Rattle.registers.specs.declared.Download.{Download}
 use Rattle.registers.specs.declared.Core.{Core}
-
-abbrev pub flagsInRange : Flags → Bool
-flagsInRange f = bitsInRange (f .eto ∷ f .eal ∷ f .edv ∷ f .epo ∷ [])
 
 -- address, depth and flags
 unfoldable pub coreInRange : Core → Bool

@@ -1,25 +1,21 @@
--- The scalar registers, and what power-up, a tick and a sample's alarms make of them: "Registers: accumulator, X, last
+-- The scalar registers, and what power-up makes of them: "Registers: accumulator, X, last
 -- comparison, flags ETO EAL EDV EPO, program address 0 to 1,024, running or not, armed wait, download mode and write address,
 -- motion order (stopped, velocity, position) .. A dropped wait and freed stack entries become 0; what no rule names stays."
-use Prim.Native.Nat.{ℕ, _+_, _-_}
-use mathlib.Core.Bool.{Bool, false, _&&_}
+use Prim.Native.Nat.{ℕ, _+_}
+use mathlib.Core.Bool.{Bool, false}
 use lib.Dec.{ltb}
 use lib.IntN.{pos}
 use Rattle.words.specs.Word.{pick, word}
 use Rattle.words.specs.declared.Word.{Word}
 use Rattle.order.specs.declared.Compared.{Compared}
 use Rattle.order.specs.declared.Compared.the-variants.{Equal}
-use Rattle.registers.specs.declared.Flags.{Flags}
-use Rattle.registers.specs.declared.Alarms.{Alarms}
-use Rattle.registers.specs.declared.Wait.{Wait}
+use Rattle.flags.specs.declared.Flags.{Flags}
+use Rattle.waits.specs.Waits.{droppedWait}
+use Rattle.waits.specs.declared.Wait.{Wait}
 use Rattle.registers.specs.declared.Motion.{Motion}
 use Rattle.registers.specs.declared.Download.{Download}
 use Rattle.registers.specs.declared.Core.{Core}
 use Rattle.registers.specs.declared.Order.the-variants.{Stopped}
-
--- "A dropped wait and freed stack entries become 0"
-abbrev pub droppedWait : Wait
-droppedWait = record { armed = false; count = 0; timed = false }
 
 -- ---- one part changed, and nothing else
 abbrev pub withWait : Wait → Core → Core
@@ -145,28 +141,6 @@ next c = moved (nextAddress (c .address)) c
 -- not running, with no wait
 abbrev pub stopped : Core → Core
 stopped c = withRunning false (withWait droppedWait c)
-
--- ---- a sample
--- "an alarm that is on sets EAL, EDV or EPO, one that is off clears nothing"
-abbrev pub raisedFlag : Bool → ℕ → ℕ
-raisedFlag on flag = pick on 1 flag
-
-unfoldable pub raised : Alarms → Flags → Flags
-raised a f =
-    record {
-      eto = f .eto;
-      eal = raisedFlag (a .eal) (f .eal);
-      edv = raisedFlag (a .edv) (f .edv);
-      epo = raisedFlag (a .epo) (f .epo);
-    }
-
--- ---- a tick
-abbrev pub counted : ℕ → Wait → Wait
-counted n w = record { armed = w .armed; count = n; timed = w .timed }
-
--- "lowers an armed wait's count by one if it is above 0"
-unfoldable pub ticked : Wait → Wait
-ticked w = pick (w .armed && ltb 0 (w .count)) (counted (w .count - 1) w) w
 
 -- ---- power-up
 abbrev pub noDownload : Download

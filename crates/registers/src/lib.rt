@@ -4,7 +4,9 @@
 // range too, since registers can be handed in so.
 ghost use mathlib.Core.Path.{_≡_};
 ghost use Rattle.registers.specs.Laws.{Laws};
-ghost use Rattle.registers.specs.Range.{flagsInRange, coreInRange, downloadInRange};
+ghost use Rattle.flags.specs.Flags.{raised};
+ghost use Rattle.waits.specs.Waits.{ticked};
+ghost use Rattle.registers.specs.Range.{coreInRange, downloadInRange};
 ghost use Rattle.registers.specs.Registers.{
   withWait,
   withFlags,
@@ -17,38 +19,14 @@ ghost use Rattle.registers.specs.Registers.{
   nextAddress,
   next,
   stopped,
-  raisedFlag,
-  raised,
-  droppedWait,
-  ticked,
   poweredCore,
   noDownload,
 };
+use flags::Alarms;
+use flags::Flags;
 use order::Compared;
+use waits::Wait;
 use words::Word;
-
-// ETO, EAL, EDV and EPO, each 0 or 1 where it is in range.
-pub struct Flags {
-    pub eto: u8,
-    pub eal: u8,
-    pub edv: u8,
-    pub epo: u8,
-}
-
-// Which alarms a sample has on.
-pub struct Alarms {
-    pub eal: bool,
-    pub edv: bool,
-    pub epo: bool,
-}
-
-// `timed`: the value that the wait was armed with was above 0. Its count does not tell, since it falls
-// to 0.
-pub struct Wait {
-    pub armed: bool,
-    pub count: u32,
-    pub timed: bool,
-}
 
 pub enum Order {
     Stopped,
@@ -85,64 +63,6 @@ pub fn next_address(address: u16) -> u16
     ensures { λ r. ⌜ r ≡ nextAddress address ⌝ }
 {
     if address < 1024 { address + 1 } else { address }
-}
-
-// A flag after its alarm.
-fn raised_flag(alarm: bool, flag: u8) -> u8
-    ensures { λ r. ⌜ r ≡ raisedFlag alarm flag ⌝ }
-{
-    if alarm { 1 } else { flag }
-}
-
-impl Flags {
-    // Whether each flag is 0 or 1.
-    pub fn in_range(self) -> bool
-        ensures { λ r. ⌜ r ≡ flagsInRange self ⌝ }
-    {
-        let bits = [self.eto, self.eal, self.edv, self.epo];
-        ranges::bits_in_range(&bits)
-    }
-
-    // An alarm that is on sets its flag, one that is off clears nothing.
-    pub fn raised(self, alarms: Alarms) -> Self
-        ensures { λ r. ⌜ r ≡ raised alarms self ⌝ }
-    {
-        Flags {
-            eto: self.eto,
-            eal: raised_flag(alarms.eal, self.eal),
-            edv: raised_flag(alarms.edv, self.edv),
-            epo: raised_flag(alarms.epo, self.epo),
-        }
-    }
-}
-
-impl Wait {
-    // No wait.
-    pub fn dropped() -> Self
-        ensures { λ r. ⌜ r ≡ droppedWait ⌝ }
-    {
-        Wait {
-            armed: false,
-            count: 0,
-            timed: false,
-        }
-    }
-
-    // After 10 ms more.
-    pub fn ticked(self) -> Self
-        ensures { λ r. ⌜ r ≡ ticked self ⌝ }
-    {
-        let count = self.count;
-        if self.armed && 0 < count {
-            Wait {
-                armed: self.armed,
-                count: count - 1,
-                timed: self.timed,
-            }
-        } else {
-            self
-        }
-    }
 }
 
 impl Download {

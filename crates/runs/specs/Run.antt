@@ -6,10 +6,8 @@ use lib.Dec.{eqb, leb}
 use lib.ListN.{length}
 use Rattle.words.specs.Word.{pick}
 use Rattle.status.specs.Status.{numberOf}
-use Rattle.stepping.specs.Step.{Summary, begun, summary}
-use Rattle.stepping.specs.Step as steps
 use Rattle.board.specs.Range.{registersInRange}
-use Rattle.board.specs.Step.{stateOf, pinsOf, withState}
+use Rattle.board.specs.Step.{Steps, steps}
 use Rattle.board.specs.declared.Registers.{Registers}
 use Rattle.runs.specs.declared.Ended.{Ended}
 use Rattle.runs.specs.declared.Ended.the-variants.{Length, HandedIn, Budget, Last}
@@ -25,21 +23,6 @@ endedStatus (Last s) = numberOf s
 abbrev pub refused : Ended → Registers → Ran
 refused e r = record { registers = r; ended = e; steps = 0 }
 
--- a run that was made, with the parameter store it leaves
-pub record Left : Type 0 where
-  pub ran : Ran
-  pub store : List ℕ
-
-abbrev pub left : Ran → List ℕ → Left
-left r m = record { ran = r; store = m }
-
-abbrev pub leftBy : Summary → Registers → Left
-leftBy x r =
-    left (record { registers = withState (x .state) r; ended = Last (x .status); steps = x .steps }) (x .state .store)
-
-unfoldable pub gone : List ℕ → ℕ → Registers → List ℕ → Left
-gone program budget r m = leftBy (summary (steps.run false program (pinsOf r) budget (begun (stateOf r m)))) r
-
 -- registers, parameter store and the two numbers that are answered
 pub record Answer : Type 0 where
   pub registers : Registers
@@ -50,13 +33,13 @@ pub record Answer : Type 0 where
 abbrev pub answered : Ran → List ℕ → Answer
 answered r m = record { registers = r .registers; store = m; status = endedStatus (r .ended); steps = r .steps }
 
-abbrev pub afterRun : Left → Answer
-afterRun l = answered (l .ran) (l .store)
+abbrev pub afterSteps : Steps → Answer
+afterSteps x = record { registers = x .registers; store = x .store; status = numberOf (x .status); steps = x .steps }
 
 unfoldable pub run : List ℕ → ℕ → Registers → List ℕ → Answer
 run program budget r m =
     pick (eqb (length program) 7168 && eqb (length m) 364)
     (pick (registersInRange r)
-    (pick (leb budget 1000) (afterRun (gone program budget r m)) (answered (refused Budget r) m))
+    (pick (leb budget 1000) (afterSteps (steps false program budget r m)) (answered (refused Budget r) m))
     (answered (refused HandedIn r) m))
     (answered (refused Length r) m)

@@ -32,42 +32,6 @@ fn refused(registers: Registers, ended: Ended) -> Ran
     }
 }
 
-// The registers taken apart once, the program run, and put together once.
-fn go(registers: Registers, program: &[u8], store: &mut [u8], budget: usize) -> Ran
-    ensures { λ r. ⌜ spec.left r (now (store .exit)) ≡ spec.gone (now (program .entry)) budget registers (now (store .entry)) ⌝ }
-{
-    let mut entries = registers.entries;
-    let mut values = registers.values;
-    let mut outputs = registers.outputs;
-    let digital = registers.digital;
-    let analog = registers.analog;
-    let core = registers.core;
-    let ran = stepping::run(
-        core,
-        &mut entries,
-        &mut values,
-        &mut outputs,
-        &digital,
-        &analog,
-        store,
-        program,
-        budget,
-        false,
-    );
-    let there = ran.core;
-    let status = ran.status;
-    let mut after = registers;
-    after.core = there;
-    after.entries = entries;
-    after.values = values;
-    after.outputs = outputs;
-    Ran {
-        registers: after,
-        ended: Ended::Last(status),
-        steps: ran.steps,
-    }
-}
-
 // A run of at most so many steps.
 pub fn run(registers: Registers, program: &[u8], store: &mut [u8], budget: usize) -> Ran
     ensures { λ r. ⌜ spec.answered r (now (store .exit)) ≡ spec.run (now (program .entry)) budget registers (now (store .entry)) ⌝ }
@@ -84,5 +48,12 @@ pub fn run(registers: Registers, program: &[u8], store: &mut [u8], budget: usize
     if 1000 < budget {
         return refused(registers, Ended::Budget);
     }
-    go(registers, program, store, budget)
+    let ran = registers.run(program, store, budget, false);
+    let after = ran.registers;
+    let status = ran.status;
+    Ran {
+        registers: after,
+        ended: Ended::Last(status),
+        steps: ran.steps,
+    }
 }

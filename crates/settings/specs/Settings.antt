@@ -18,7 +18,8 @@ use Rattle.values.specs.Values.{valueAt}
 abbrev pub axisPlace : ℕ → ℕ
 axisPlace n = placeIn axis n
 
--- bank 0: "66, 76, 77, 73, 128 and 130"; bank 2: "0 to 55", behind all parameters
+-- bank 0: 66, 73, 76, 77, behind the axis parameters (128 and 130 have no working value, and the place that they get decides
+-- nothing); bank 2: "0 to 55", behind all parameters
 unfoldable pub bankPlace : ℕ → ℕ → ℕ
 bankPlace bank n = pick (eqb bank 2) (length parameters + n) (length axis + placeIn (globals ++ readOnly) n)
 

@@ -1,6 +1,5 @@
--- "Program steps", and the run event's steps.
-use Prim.Native.Nat.{ℕ, zero, suc, _+_}
-use mathlib.Core.Bool.{Bool, false, not, _&&_, _||_}
+-- "Program steps".
+use Prim.Native.Nat.{ℕ}
 use mathlib.Core.List.{List}
 use lib.Dec.{leb}
 use lib.IntN.{ℤ}
@@ -18,7 +17,6 @@ use Rattle.reading.specs.Reading.{read}
 use Rattle.effects.specs.Effects.{Work}
 use Rattle.deciding.specs.Deciding.{worked}
 use Rattle.stepping.specs.declared.Stepped.{Stepped}
-use Rattle.stepping.specs.declared.Ran.{Ran}
 
 -- what a step can change
 pub record State : Type 0 where
@@ -75,52 +73,16 @@ carried r p x =
     (after Done (only (loaded r (x .core) (x .values) (x .outputs) (p .digital) (p .analog) .core) x))
     (afterWork (worked r (x .core) (x .values) (x .outputs) (x .store)) x))
 
--- "Commands not listed above, and 128 up: status 2, stops"; "Other refused steps change only the address, by one, and drop a wait"
+-- "Commands not listed above, and 128 up: status 2, stops .. the address stays. Other refused steps change only the address, by one,
+-- and drop a wait." "A step keeps this order from 2 on, but CSUB's 6 comes after its value": the judge has 2, 4, 3, 4 of the bytes, and
+-- what is carried refuses with 6, 4 and 5 of the registers.
 unfoldable pub obeyed : Command → Pins → State → After
 obeyed r p x =
     pick (isUnknown (judged r)) (after (judged r) (only (stopped (x .core)) x))
     (pick (isDone (judged r)) (carried r p x) (after (judged r) (only (next (x .core)) x)))
 
--- "Address 1,024: status 4, stops"
+-- "Address 1,024: status 4, stops .. the address stays"
 unfoldable pub step : List ℕ → Pins → State → After
 step program p x =
     pick (leb 1024 (x .core .address)) (after Value (only (stopped (x .core)) x))
     (obeyed (recordAt program (x .core .address)) p x)
-
--- ---- a run: "it ends when the budget is used, the program is not running, or a WAIT holds. It answers the number of steps carried
--- out (a holding WAIT counts) and the last step's status, or 100 with no step."
-pub record Progress : Type 0 where
-  pub state : State
-  pub status : Status
-  pub steps : ℕ
-  pub held : Bool
-
-abbrev pub begun : State → Progress
-begun x = record { state = x; status = Done; steps = 0; held = false }
-
--- after one step more; every step but a WAIT that holds leaves no wait armed
-abbrev pub onward : After → ℕ → Progress
-onward y n = record { state = y .state; status = y .status; steps = n + 1; held = y .state .core .wait .armed }
-
-abbrev pub advanced : List ℕ → Pins → Progress → Progress
-advanced program p x = onward (step program p (x .state)) (x .steps)
-
--- alone: a step of 130, which needs no running program
-abbrev pub goesOn : Bool → Progress → Bool
-goesOn alone x = not (x .held) && (alone || x .state .core .running)
-
-unfoldable pub run : Bool → List ℕ → Pins → ℕ → Progress → Progress
-run alone program p zero x = x
-run alone program p (suc n) x = pick (goesOn alone x) (run alone program p n (advanced program p x)) x
-
--- what is answered of a run
-pub record Summary : Type 0 where
-  pub state : State
-  pub status : Status
-  pub steps : ℕ
-
-abbrev pub summary : Progress → Summary
-summary x = record { state = x .state; status = x .status; steps = x .steps }
-
-abbrev pub ran : Ran → List ℕ → List ℤ → List ℕ → List ℕ → Summary
-ran r e v o m = record { state = state (r .core) e v o m; status = r .status; steps = r .steps }

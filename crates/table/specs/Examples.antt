@@ -6,8 +6,8 @@ use mathlib.Core.List.{List, [], _∷_}
 use lib.IntN.{pos, negsuc}
 use Rattle.words.specs.Word.{word}
 use Rattle.values.specs.Examples.{defaultCells}
-use Rattle.stepping.specs.Step.{Progress, run}
-use Rattle.stepping.specs.Step as steps
+use Rattle.running.specs.Run.{Progress, run}
+use Rattle.running.specs.Run as running
 use Rattle.board.specs.Step.{stateOf, pinsOf}
 use Rattle.board.specs.Registers.{powered}
 use Rattle.status.specs.Status.{numberOf}
@@ -16,7 +16,7 @@ use Rattle.table.specs.Begun.{command, first, more, statusOf}
 -- a run from address 0 of a short program, the rest of the store being out of reach
 abbrev pub ran : List ℕ → ℕ → Progress
 ran program n =
-    run false program (pinsOf (powered defaultCells)) n (steps.begun (stateOf (more (command 129 0 0 (pos 0)) (first (command 131 0 0 (pos 0))) .registers) defaultCells))
+    run false program (pinsOf (powered defaultCells)) n (running.begun (stateOf (more (command 129 0 0 (pos 0)) (first (command 131 0 0 (pos 0))) .registers) defaultCells))
 
 -- CSUB 2; STOP; CALC LOAD 7; SGP 0, 2, 515; STGP 0, 2; RSUB
 abbrev pub calling : List ℕ

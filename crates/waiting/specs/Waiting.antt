@@ -1,4 +1,5 @@
--- WAIT, in the order of 01's paragraph.
+-- WAIT: what a step that the judge has let through finds. Motor, type and "every other negative value is 4" are the judge's (fields),
+-- ETO, the address and the dropped wait the step's (flow).
 use Prim.Native.Nat.{ℕ}
 use mathlib.Core.Bool.{Bool, true, _&&_, _||_}
 use mathlib.Core.List.{List}
@@ -10,7 +11,7 @@ use Rattle.order.specs.Order.{sameW, inRange}
 use Rattle.sheet.specs.Sheet.{axis}
 use Rattle.sheet.specs.Places.{placeIn}
 use Rattle.values.specs.Values.{valueAt}
-use Rattle.registers.specs.declared.Wait.{Wait}
+use Rattle.waits.specs.declared.Wait.{Wait}
 use Rattle.waiting.specs.declared.Waited.{Waited}
 use Rattle.waiting.specs.declared.Waited.the-variants.{Refused, Passed, TimedOut, Holding}
 
@@ -23,7 +24,7 @@ unfoldable pub happened : ℕ → List ℤ → Bool
 happened kind values =
     pick (eqb kind 1) (isOn values 55) (pick (eqb kind 2) (isOn values 213) (isOn values 211 || isOn values 212))
 
--- "TICKS -1 takes the accumulator"
+-- "TICKS -1 takes the accumulator"; negsuc 0 is -1
 abbrev pub armedFrom : ℕ → Word → Word → Word
 armedFrom kind value accumulator = pick (eqb kind 0 && sameW (value .v) (negsuc 0)) accumulator value
 

@@ -39,11 +39,11 @@ returns-8 c = simp (c .match .keys8)
 
 returns-9 : tie.Need-returns-9
 unfolding judged
-returns-9 c = simp (c .in-order5 .ensures, c .before .is-key .ensures, c .before .before .match .keys9)
+returns-9 c = simp (c .in-order5 .ensures, c .before .is-1234 .ensures, c .before .before .match .keys9)
 
 returns-10 : tie.Need-returns-10
 unfolding judged
-returns-10 c = simp (c .in-order6 .ensures, c .before .is-key2 .ensures, c .before .before .match .keys10)
+returns-10 c = simp (c .in-order6 .ensures, c .before .is-12342 .ensures, c .before .before .match .keys10)
 
 returns-11 : tie.Need-returns-11
 unfolding judged

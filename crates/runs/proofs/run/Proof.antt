@@ -23,7 +23,7 @@ returns-4 c = simp (c .refused4 .ensures, lt-leb _ _ (c .before .if4 .taken), no
 
 returns-5 : tie.Need-returns-5
 unfolding run
-returns-5 c = simp (← c .before .before .go .ensures, le-leb _ _ (c .before .before .before .before .if4 .left), not-false (c .before .before .before .before .before .before .in-range .result) (c .before .before .before .before .before .if3 .left), ← c .before .before .before .before .before .before .in-range .ensures, eq-eqb _ _ (c .before .before .before .before .before .before .before .if2 .left), eq-eqb _ _ (c .before .before .before .before .before .before .before .before .if1 .left))
+returns-5 c = simp (← c .before .before .before .run .ensures, le-leb _ _ (c .before .before .before .before .before .if4 .left), not-false (c .before .before .before .before .before .before .before .in-range .result) (c .before .before .before .before .before .before .if3 .left), ← c .before .before .before .before .before .before .before .in-range .ensures, eq-eqb _ _ (c .before .before .before .before .before .before .before .before .if2 .left), eq-eqb _ _ (c .before .before .before .before .before .before .before .before .before .if1 .left))
 
 pub run-spec : {M : Type 1} → statement M
 run-spec =

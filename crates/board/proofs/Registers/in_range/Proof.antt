@@ -5,7 +5,8 @@ use borrow.Author.Tests.{not-true, not-false}
 use Rattle.words.proofs.Bools.{all-three, not-first, not-second}
 use Rattle.sheet.specs.Rows.{parameters}
 use Rattle.values.specs.Values.{valuesInRange}
-use Rattle.board.specs.Range.{addressesInRange, pinsInRange, registersInRange}
+use Rattle.board.specs.Range.{addressesInRange, registersInRange}
+use Rattle.ranges.specs.Range.{pinsInRange}
 use Rattle.board.proofs.Registers.in_range.Statement.{statement}
 use Rattle.board.proofs.Registers.in_range.Tie as tie
 

@@ -3,7 +3,8 @@ use mathlib.Core.Logic.{⊎-elim}
 use borrow.Author.Needs.{needs}
 use borrow.Author.Tests.{le-leb, lt-leb}
 use lib.Dec.{leb}
-use Rattle.registers.specs.Range.{flagsInRange, coreInRange}
+use Rattle.registers.specs.Range.{coreInRange}
+use Rattle.flags.specs.Flags.{flagsInRange}
 use Rattle.words.proofs.Bools.{all-three, not-first, not-second}
 use Rattle.registers.proofs.Core.in_range.Statement.{statement}
 use Rattle.registers.proofs.Core.in_range.Tie as tie

@@ -1,0 +1,14 @@
+-- `fields::axis::sap` meets its contract. Assumes nothing.
+use Rattle.fields.specs.Fields.{sap}
+use borrow.Author.Needs.{needs}
+use Rattle.fields.proofs.axis.sap.Statement.{statement}
+use Rattle.fields.proofs.axis.sap.Tie as tie
+
+returns : tie.Need-returns
+unfolding sap
+returns c = simp (c .by-bytes .ensures, c .before .writable .ensures, c .before .before .before .settable .ensures, c .before .before .before .before .axis-place .ensures)
+
+pub sap-spec : {M : Type 1} → statement M
+sap-spec =
+    tie.close
+    (tie.spec (λ c κs. search needs) (λ c κs. search needs) (λ c κs. search needs) (λ c κs. search needs) returns)

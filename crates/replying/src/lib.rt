@@ -1,0 +1,46 @@
+// A reply to a command: its nine bytes, and the two addresses that it is sent from and to.
+ghost use mathlib.Core.Path.{_≡_};
+ghost use Rattle.replying.specs.Reply as spec;
+use status::Status;
+use wire::Reply;
+use words::Word;
+
+// The two addresses of a reply.
+pub struct Addresses {
+    pub reply_address: u8,
+    pub module_address: u8,
+}
+
+// A global of 0 to 255 as a byte.
+pub fn byte_of(values: &[i32; 103], number: u8) -> u8
+    ensures { λ r. ⌜ r ≡ spec.byteOf (now (values .entry)) number ⌝ }
+{
+    let four = words::four_of(values::value_at(values, settings::bank_place(0, number)));
+    four.b0
+}
+
+// From the working values, before the command.
+pub fn from_values(values: &[i32; 103]) -> Addresses
+    ensures { λ r. ⌜ r ≡ spec.addresses (now (values .entry)) ⌝ }
+{
+    Addresses {
+        reply_address: byte_of(values, 76),
+        module_address: byte_of(values, 66),
+    }
+}
+
+// Writes a reply of nine bytes.
+pub fn reply_with(reply: &mut [u8], from: Addresses, status: Status, number: u8, value: Word)
+    ensures { λ _. ⌜ now (reply .exit) ≡ spec.replied (now (reply .entry)) from status number value ⌝ }
+{
+    serial::put_reply(
+        reply,
+        Reply {
+            reply_address: from.reply_address,
+            module_address: from.module_address,
+            status: status.number(),
+            command: number,
+            value: value,
+        },
+    );
+}

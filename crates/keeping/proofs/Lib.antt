@@ -4,4 +4,5 @@ pub mod Flows
 pub mod Settings
 pub mod Applied
 pub mod Decided
+pub mod Held
 pub mod Rules

@@ -38,6 +38,7 @@ use Rattle.keeping.proofs.Cores.{next-in-range, stopped-in-range}
 use Rattle.keeping.proofs.Flows.{flowed-kept}
 use Rattle.keeping.proofs.Applied.{leaves, with-core, applied-sound, applied-store, applied-refused}
 use Rattle.keeping.proofs.Decided.{decided-good}
+use Rattle.keeping.proofs.Held.{step-held}
 
 -- ---- the value of a record is a word
 pub value-fits : (p : List ℕ) (at : ℕ) → AllBytes p → SFits w32 (wordAt p at)
@@ -185,6 +186,7 @@ module _ (program : List ℕ) (p : Pins) where
 pub laws : Laws
 laws =
     record {
+      step-held = step-held;
       step-sound = step-sound;
       run-sound = λ alone program p. run-sound program p alone;
       direct-sound = λ c digital analog x. direct-sound c x digital analog;

@@ -1,7 +1,7 @@
 -- The laws of commands, datagrams and runs. Assumes nothing.
 use Prim.Native.Nat.{ℕ, _+_}
 use mathlib.Core.Path.{_≡_, refl, sym, ap, _∙_}
-use mathlib.Core.Bool.{true, false, true≢false, _&&_}
+use mathlib.Core.Bool.{Bool, true, false, true≢false, _&&_}
 use mathlib.Core.List.{List}
 use lib.Dec.{eqb, leb}
 use lib.IntN.{pos}
@@ -233,6 +233,27 @@ run-in-range program budget r m b h =
     (λ _. picked P (leb budget 1000) goes over
     (λ _. with-state r (x .state) h (l .run-sound false program (pinsOf r) budget (running.begun (stateOf r m)) b (sound r m h))) h) h) h
 
+module _ (r : Registers) (m : List ℕ) where
+  abbrev Still : runs.Answer → Type 0
+  Still a = (a .registers ≡ r) × (a .store ≡ m) × (a .steps ≡ 0)
+
+  by-refusal : (a b c d : Bool) (u v w z : runs.Answer) → Still v → Still w → Still z → a && b && (c && d) ≡ false
+      → Still (pick (a && b) (pick c (pick d u v) w) z)
+  by-refusal true true true true u v w z f g h e = absurd (true≢false e)
+  by-refusal true true true false u v w z f g h e = f
+  by-refusal true true false d u v w z f g h e = g
+  by-refusal true false c d u v w z f g h e = h
+  by-refusal false b c d u v w z f g h e = h
+
+run-refused : (program : List ℕ) (budget : ℕ) (r : Registers) (m : List ℕ)
+    → eqb (length program) 7168 && eqb (length m) 364 && (registersInRange r && leb budget 1000) ≡ false
+    → (runs.run program budget r m .registers ≡ r) × (runs.run program budget r m .store ≡ m) × (runs.run program budget r m .steps ≡ 0)
+unfolding runs.run
+run-refused program budget r m e =
+    by-refusal r m (eqb (length program) 7168) (eqb (length m) 364) (registersInRange r) (leb budget 1000)
+    (runs.afterSteps (steps false program budget r m)) (runs.answered (runs.refused Budget r) m) (runs.answered (runs.refused HandedIn r) m)
+    (runs.answered (runs.refused Length r) m) (refl, refl, refl) (refl, refl, refl) (refl, refl, refl) e
+
 -- ---- one answer: each is found again by its number
 statusAt : ℕ → Status
 statusAt n =
@@ -301,6 +322,7 @@ commands =
       single-step = single-step;
       not-ours = not-ours;
       datagram-refused = datagram-refused;
+      run-refused = run-refused;
       command-in-range = λ c r p m f b h. obeyed-kept c r h p m f b;
       datagram-in-range = datagram-in-range;
       run-in-range = run-in-range;

@@ -1,8 +1,9 @@
 -- What is relied on of commands, datagrams and runs.
 use Prim.Native.Nat.{ℕ}
 use mathlib.Core.Path.{_≡_}
-use mathlib.Core.Bool.{Bool, true, false}
+use mathlib.Core.Bool.{Bool, true, false, _&&_}
 use mathlib.Core.List.{List}
+use lib.Dec.{eqb, leb}
 use lib.ListN.{length}
 use mir.Syntax.{w32}
 use mir.Val.{SFits}
@@ -52,6 +53,10 @@ pub record Commands : Type 0 where
   -- a datagram that is answered anything but 100 and 101 changes no register and no byte of either store
   pub datagram-refused : (bytes : List ℕ) (x : Board) → (datagram bytes x .status ≡ 100 → ⊥) → (datagram bytes x .status ≡ 101 → ⊥)
       → datagram bytes x .board ≡ board (x .registers) (x .program) (x .store) (datagram bytes x .board .reply)
+  -- a run that is refused, with 20, 23 or 22, changes nothing and makes no step
+  pub run-refused : (program : List ℕ) (budget : ℕ) (r : Registers) (m : List ℕ)
+      → eqb (length program) 7168 && eqb (length m) 364 && (registersInRange r && leb budget 1000) ≡ false
+      → (runs.run program budget r m .registers ≡ r) × (runs.run program budget r m .store ≡ m) × (runs.run program budget r m .steps ≡ 0)
   -- registers in range stay so under every command, datagram and run
   pub command-in-range : (c : Command) (r : Registers) (p m : List ℕ) → SFits w32 (c .value .v) → AllBytes p → InRange r
       → InRange (obeyed c r p m .registers)

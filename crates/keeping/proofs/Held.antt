@@ -1,0 +1,150 @@
+-- A step leaves a wait armed exactly if it is a WAIT that holds. Assumes nothing.
+use Prim.Native.Nat.{ℕ}
+use mathlib.Core.Path.{_≡_, refl, sym, _∙_}
+use mathlib.Core.Bool.{Bool, true, false, not, true≢false, _&&_}
+use mathlib.Core.List.{List}
+use borrow.Author.Tests.{eqb-true}
+use lib.Dec.{eqb, leb}
+use lib.IntN.{ℤ}
+use Rattle.words.specs.Word.{pick}
+use Rattle.words.specs.declared.Word.{Word}
+use Rattle.words.proofs.Bools.{picked}
+use Rattle.wire.specs.declared.Command.{Command}
+use Rattle.store.specs.Store.{recordAt}
+use Rattle.registers.specs.Registers.{moved, next, nextAddress, stopped, withDepth}
+use Rattle.registers.specs.declared.Core.{Core}
+use Rattle.waits.specs.declared.Wait.{Wait}
+use Rattle.status.specs.Status.{isDone, isUnknown}
+use Rattle.status.specs.declared.Status.{Status}
+use Rattle.status.specs.declared.Status.the-variants.{Done, Stored, Checksum, Unknown, Kind, Value, Locked, Unavailable}
+use Rattle.stack.specs.Stack.{pushed, popped}
+use Rattle.jumping.specs.Jump.{jumps, addressOf}
+use Rattle.waiting.specs.Waiting.{happened, notNegative, armedFrom, armedWith, tested, waited}
+use Rattle.waiting.specs.declared.Waited.{Waited}
+use Rattle.waiting.specs.declared.Waited.the-variants.{Refused, Passed, TimedOut, Holding}
+use Rattle.judge.specs.Judge.{judged, isFlow, isReading}
+use Rattle.flow.specs.Flow.{Flow, flow, at, refused, jumped, called, returned, halted, afterWait, waitedStep, flowed}
+use Rattle.deciding.specs.Deciding.{worked}
+use Rattle.stepping.specs.Step.{State, Pins, After, after, only, loaded, afterFlow, afterWork, carried, obeyed, step}
+use Rattle.keeping.specs.Laws.{isHolding, holds}
+
+-- ---- a WAIT
+module _ (c : Core) where
+  abbrev Tells : Waited → Type 0
+  Tells w = afterWait w c .core .wait .armed ≡ isHolding w
+
+  tested-tells : (kind : ℕ) (values : List ℤ) (w : Wait) → w .armed ≡ true → Tells (tested kind values w)
+  unfolding tested
+  tested-tells kind values w e =
+      picked Tells (eqb kind 0) (pick (eqb (w .count) 0) Passed (Holding w))
+      (pick (happened kind values) Passed (pick (w .timed && eqb (w .count) 0) TimedOut (Holding w)))
+      (λ _. picked Tells (eqb (w .count) 0) Passed (Holding w) (λ _. refl) e)
+      (picked Tells (happened kind values) Passed (pick (w .timed && eqb (w .count) 0) TimedOut (Holding w)) (λ _. refl)
+      (picked Tells (w .timed && eqb (w .count) 0) TimedOut (Holding w) (λ _. refl) e))
+
+  waited-tells : (kind : ℕ) (value : Word) (values : List ℤ) → Tells (waited kind value (c .accumulator) values (c .wait))
+  unfolding waited
+  waited-tells kind value values =
+      let z = armedFrom kind value (c .accumulator) .v in
+      picked Tells (c .wait .armed) (tested kind values (c .wait)) (pick (notNegative z) (tested kind values (armedWith z)) Refused)
+      (tested-tells kind values (c .wait))
+      (picked Tells (notNegative z) (tested kind values (armedWith z)) Refused (λ _. tested-tells kind values (armedWith z) refl) refl)
+
+-- ---- the other commands of the program's flow
+abbrev Free : Flow → Type 0
+Free f = f .core .wait .armed ≡ false
+
+jumped-free : (taken : Bool) (z : ℤ) (c : Core) (e : List ℕ) → Free (flow (jumped taken z c) e)
+unfolding jumped
+jumped-free true z c e = refl
+jumped-free false z c e = refl
+
+called-free : (z : ℤ) (c : Core) (e : List ℕ) → Free (called z c e)
+unfolding called
+called-free z c e =
+    picked Free (leb 8 (c .depth)) (flow (refused Unavailable c) e)
+    (flow (at Done (withDepth (pushed e (c .depth) (nextAddress (c .address)) .depth) (moved (addressOf z) c)))
+    (pushed e (c .depth) (nextAddress (c .address)) .entries)) (λ _. refl) refl
+
+returned-free : (c : Core) (e : List ℕ) → Free (returned c e)
+unfolding returned
+returned-free c e =
+    picked Free (eqb (c .depth) 0) (flow (refused Unavailable c) e)
+    (flow (at Done (withDepth (popped e (c .depth) .stack .depth) (moved (popped e (c .depth) .back) c)))
+    (popped e (c .depth) .stack .entries)) (λ _. refl) refl
+
+halted-free : (c : Core) → Free (halted c)
+unfolding halted
+halted-free c = refl
+
+flowed-free : (r : Command) (c : Core) (e : List ℕ) (values : List ℤ) → eqb (r .number) 27 ≡ false → Free (flowed r c e values)
+unfolding flowed
+flowed-free r c e values h =
+    let n = r .number in
+    let w = flow (waitedStep (r .kind) (r .value) c values) e in
+    let j = flow (jumped true (r .value .v) c) e in
+    picked Free (eqb n 21) (flow (jumped (jumps (r .kind) (c .accumulator .v) (c .last) (c .flags)) (r .value .v) c) e)
+    (pick (eqb n 22) j (pick (eqb n 23) (called (r .value .v) c e) (pick (eqb n 24) (returned c e) (pick (eqb n 27) w (halted c)))))
+    (λ _. jumped-free (jumps (r .kind) (c .accumulator .v) (c .last) (c .flags)) (r .value .v) c e)
+    (picked Free (eqb n 22) j (pick (eqb n 23) (called (r .value .v) c e) (pick (eqb n 24) (returned c e) (pick (eqb n 27) w (halted c))))
+    (λ _. jumped-free true (r .value .v) c e)
+    (picked Free (eqb n 23) (called (r .value .v) c e) (pick (eqb n 24) (returned c e) (pick (eqb n 27) w (halted c)))
+    (λ _. called-free (r .value .v) c e)
+    (picked Free (eqb n 24) (returned c e) (pick (eqb n 27) w (halted c)) (λ _. returned-free c e)
+    (picked Free (eqb n 27) w (halted c) (λ t. absurd (true≢false (sym t ∙ h))) (halted-free c)))))
+
+-- ---- a record that the judge lets through
+abbrev armed : After → Bool
+armed y = y .state .core .wait .armed
+
+module _ (r : Command) (p : Pins) (x : State) where
+  abbrev held : Bool
+  held = isHolding (waited (r .kind) (r .value) (x .core .accumulator) (x .values) (x .core .wait))
+
+  wait-armed : r .number ≡ 27 → armed (carried r p x) ≡ held
+  unfolding carried isFlow flowed waitedStep
+  wait-armed e = rw e (waited-tells (x .core) (r .kind) (r .value) (x .values))
+
+  other-armed : eqb (r .number) 27 ≡ false → armed (carried r p x) ≡ false
+  unfolding carried
+  other-armed h =
+      let f = afterFlow (flowed r (x .core) (x .entries) (x .values)) x in
+      let l = after Done (only (loaded r (x .core) (x .values) (x .outputs) (p .digital) (p .analog) .core) x) in
+      let w = afterWork (worked r (x .core) (x .values) (x .outputs) (x .store)) x in
+      picked (λ (y : After). armed y ≡ false) (isFlow (r .number)) f (pick (isReading (r .number)) l w)
+      (λ _. flowed-free r (x .core) (x .entries) (x .values) h)
+      (picked (λ (y : After). armed y ≡ false) (isReading (r .number)) l w (λ _. refl) refl)
+
+  carried-held : (b : Bool) → eqb (r .number) 27 ≡ b → armed (carried r p x) ≡ b && held
+  carried-held true e = wait-armed (eqb-true (r .number) 27 e)
+  carried-held false e = other-armed e
+
+-- ---- every step
+by-status : (s : Status) (u v w : After) → armed u ≡ false → armed w ≡ false
+    → armed (pick (isUnknown s) u (pick (isDone s) v w)) ≡ isDone s && armed v
+by-status Done u v w e f = refl
+by-status Unknown u v w e f = e
+by-status Stored u v w e f = f
+by-status Checksum u v w e f = f
+by-status Kind u v w e f = f
+by-status Value u v w e f = f
+by-status Locked u v w e f = f
+by-status Unavailable u v w e f = f
+
+obeyed-held : (r : Command) (p : Pins) (x : State) → armed (obeyed r p x) ≡ holds r x
+unfolding obeyed
+obeyed-held r p x =
+    let j = judged r in
+    rw (← carried-held r p x (eqb (r .number) 27) refl)
+    (by-status j (after j (only (stopped (x .core)) x)) (carried r p x) (after j (only (next (x .core)) x)) refl refl)
+
+by-end : (b : Bool) (u v : After) → armed u ≡ false → armed (pick b u v) ≡ not b && armed v
+by-end true u v e = e
+by-end false u v e = refl
+
+pub step-held : (program : List ℕ) (p : Pins) (x : State)
+    → armed (step program p x) ≡ not (leb 1024 (x .core .address)) && holds (recordAt program (x .core .address)) x
+unfolding step
+step-held program p x =
+    let r = recordAt program (x .core .address) in
+    rw (← obeyed-held r p x) (by-end (leb 1024 (x .core .address)) (after Value (only (stopped (x .core)) x)) (obeyed r p x) refl)

@@ -1,15 +1,15 @@
 -- The range of the scalars, taken apart and put together, and what keeps it. Assumes nothing.
-use Prim.Native.Nat.{ℕ, _+_, _≤_}
-use native.Mathlib.Omega.{arith}
+use Prim.Native.Nat.{ℕ, _≤_}
 use mathlib.Core.Path.{_≡_}
 use mathlib.Core.Bool.{true, _&&_}
 use mathlib.Core.List.{[], _∷_}
-use borrow.Author.Tests.{ltb-true, leb-true, le-leb}
-use lib.Dec.{ltb, leb}
-use Rattle.words.proofs.Bools.{each, picked}
+use borrow.Author.Tests.{leb-true, le-leb}
+use lib.Dec.{leb}
+use Rattle.words.proofs.Bools.{each}
 use Rattle.ranges.specs.Range.{every, addressInRange, bitInRange, bitsInRange}
 use Rattle.registers.specs.Registers.{withFlags, moved, next, nextAddress, stopped}
 use Rattle.registers.specs.Range.{coreInRange}
+use Rattle.registers.proofs.Addresses.{next-low}
 use Rattle.flags.specs.Flags.{flagsInRange}
 use Rattle.flags.specs.declared.Flags.{Flags}
 use Rattle.registers.specs.declared.Core.{Core}
@@ -35,13 +35,8 @@ module _ (c : Core) (h : coreInRange c ≡ true) where
   pub moved-in-range : (a : ℕ) → a ≤ 1024 → coreInRange (moved a c) ≡ true
   moved-in-range a l = whole (moved a c) (record { address = l; depth = parts .depth; flags = parts .flags })
 
-  pub next-low : nextAddress (c .address) ≤ 1024
-  next-low =
-      let a = c .address in
-      picked (λ n. n ≤ 1024) (ltb a 1024) (a + 1) a (λ e. let l = ltb-true a 1024 e in omega (arith, l)) (parts .address)
-
   pub next-in-range : coreInRange (next c) ≡ true
-  next-in-range = moved-in-range (nextAddress (c .address)) next-low
+  next-in-range = moved-in-range (nextAddress (c .address)) (next-low (c .address) (parts .address))
 
   pub stopped-in-range : coreInRange (stopped c) ≡ true
   unfolding coreInRange

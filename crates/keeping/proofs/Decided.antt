@@ -1,7 +1,7 @@
 -- What is decided of a command that the judge has let through keeps registers in range. Assumes nothing.
 use Prim.Native.Nat.{ℕ}
 use mathlib.Core.Path.{_≡_, refl}
-use mathlib.Core.Bool.{Bool, true, false, false≢true}
+use mathlib.Core.Bool.{true, false}
 use mathlib.Core.List.{List, [], _∷_}
 use borrow.Author.Tests.{eqb-true}
 use lib.Dec.{eqb}
@@ -10,7 +10,7 @@ use mir.Syntax.{w32}
 use mir.Val.{SFits}
 use Rattle.words.specs.Word.{pick, word}
 use Rattle.words.specs.declared.Word.{Word}
-use Rattle.words.proofs.Bools.{each, picked}
+use Rattle.words.proofs.Bools.{each, picked, either}
 use Rattle.wire.specs.declared.Command.{Command}
 use Rattle.order.specs.Order.{sameW, comparedW}
 use Rattle.ranges.specs.Range.{every, bitInRange, bitsInRange}
@@ -21,6 +21,7 @@ use Rattle.registers.specs.declared.Core.{Core}
 use Rattle.settings.specs.Settings.{axisPlace, bankPlace, settable, kept, isGlobal, locked}
 use Rattle.status.specs.Status.{isDone}
 use Rattle.status.specs.declared.Status.the-variants.{Value, Locked}
+use Rattle.status.proofs.Statuses.{all-right}
 use Rattle.effects.specs.declared.Effect.{Effect}
 use Rattle.effects.specs.declared.Effect.the-variants.{Refused, Move, Set, Global, Store, Restore, Output, Numbers, Last}
 use Rattle.motion.specs.Motion.{parameter, withinLimit, turn, rightWithin, leftWithin, stop, isWord, moveBy, moveTo}
@@ -38,10 +39,6 @@ use Rattle.keeping.proofs.Settings.{position-allowed, kept-allowed, set
 use Rattle.keeping.proofs.Applied.{Good}
 
 -- ---- settings
-either : (P : Effect → Type 0) (b : Bool) (x y : Effect) → (b ≡ true → P x) → (b ≡ false → P y) → P (pick b x y)
-either P true x y f g = f refl
-either P false x y f g = g refl
-
 module _ (place : ℕ) (w : Word) (values : List ℤ) where
   assign-good : settable place (w .v) ≡ true → Good (assign place w values)
   unfolding assign
@@ -123,22 +120,16 @@ bit-good : (z : ℤ) → bitInRange (bitOf z) ≡ true
 bit-good z = picked (λ n. bitInRange n ≡ true) (sameW z (pos 1)) 1 0 (λ _. refl) refl
 
 -- ---- what the judge has let through may be set
-by-bytes : (motor kind value : Bool) → isDone (fields.byBytes motor kind value) ≡ true → value ≡ true
-by-bytes true true true h = refl
-by-bytes true true false h = h
-by-bytes true false value h = absurd (false≢true h)
-by-bytes false kind value h = absurd (false≢true h)
-
 module _ (c : Command) (h : isDone (judge.judged c) ≡ true) where
   axis-settable : c .number ≡ 5 → settable (axisPlace (c .kind)) (c .value .v) ≡ true
   unfolding judge.judged fields.sap
   axis-settable e =
-      by-bytes (fields.motorZero c) (fields.writable (c .kind)) (settable (axisPlace (c .kind)) (c .value .v)) (rw e at h)
+      all-right true (fields.motorZero c) (fields.writable (c .kind)) (settable (axisPlace (c .kind)) (c .value .v)) true (rw e at h) .3
 
   bank-settable : c .number ≡ 9 → settable (bankPlace (c .motor) (c .kind)) (c .value .v) ≡ true
   unfolding judge.judged fields.sgp
   bank-settable e =
-      by-bytes (fields.isBank (c .motor)) (fields.takes (c .motor) (c .kind)) (settable (bankPlace (c .motor) (c .kind)) (c .value .v)) (rw e at h)
+      all-right true (fields.isBank (c .motor)) (fields.takes (c .motor) (c .kind)) (settable (bankPlace (c .motor) (c .kind)) (c .value .v)) true (rw e at h) .3
 
 pub decided-good : (c : Command) (core : Core) (values : List ℤ) → isDone (judge.judged c) ≡ true → SFits w32 (c .value .v)
     → coreInRange core ≡ true → Good (decided c core values)

@@ -4,11 +4,11 @@ use native.Mathlib.Omega.{arith}
 use mathlib.Core.Path.{_≡_, refl}
 use mathlib.Core.Bool.{Bool, true, _&&_}
 use mathlib.Core.List.{List}
-use borrow.Author.Tests.{ltb-true, leb-true, le-leb}
+use borrow.Author.Tests.{leb-true, le-leb}
 use lib.Dec.{eqb, ltb, leb}
 use lib.IntN.{ℤ}
 use lib.ListN.{getD, set}
-use Rattle.words.specs.Word.{pick, bitsOf}
+use Rattle.words.specs.Word.{pick}
 use Rattle.words.specs.declared.Word.{Word}
 use Rattle.words.proofs.Bools.{picked}
 use Rattle.wire.specs.declared.Command.{Command}
@@ -17,19 +17,21 @@ use Rattle.status.specs.declared.Status.the-variants.{Done, Unavailable}
 use Rattle.registers.specs.Registers.{withDepth, moved, next, nextAddress}
 use Rattle.registers.specs.Range.{coreInRange}
 use Rattle.registers.specs.declared.Core.{Core}
+use Rattle.registers.proofs.Addresses.{next-low}
 use Rattle.stack.specs.Stack.{stack, taken, pushed, popped}
 use Rattle.stack.specs.Laws as stack-laws
 use Rattle.stack.specs.declared.Stack.{Stack}
 use Rattle.stack.specs.declared.Popped.{Popped}
 use Rattle.stack.proofs.Entries as stack-rules
 use Rattle.jumping.specs.Jump.{jumps, addressOf}
+use Rattle.jumping.proofs.Addresses.{address-in}
 use Rattle.waiting.specs.Waiting.{waited}
 use Rattle.waiting.specs.declared.Waited.{Waited}
 use Rattle.waiting.specs.declared.Waited.the-variants.{Refused, Passed, TimedOut, Holding}
 use Rattle.flow.specs.Flow.{Flow, flow, at, refused, jumped, called, returned, halted, timedOut, afterWait, waitedStep, flowed}
 use Rattle.flow.specs.declared.Flowed.{Flowed}
 use Rattle.keeping.proofs.Elements.{every-set, every-get}
-use Rattle.keeping.proofs.Cores.{whole, parts, moved-in-range, next-low, next-in-range, passed-in-range}
+use Rattle.keeping.proofs.Cores.{whole, parts, moved-in-range, next-in-range, passed-in-range}
 
 -- ---- the call stack
 module _ (e : List ℕ) (h : entriesInRange e ≡ true) where
@@ -53,12 +55,6 @@ module _ (e : List ℕ) (h : entriesInRange e ≡ true) where
       (taken (set e (d - 1) 0) (d - 1) (getD e (d - 1) 0)) (taken e d 0)
       (λ _. leb-true (getD e (d - 1) 0) 1024 (every-get addressInRange e (d - 1) 0 h refl)) (omega arith)
 
-pub address-low : (z : ℤ) → addressOf z ≤ 1024
-unfolding addressOf
-address-low z =
-    let u = bitsOf z in
-    picked (λ n. n ≤ 1024) (ltb u 1024) u 0 (λ e. let l = ltb-true u 1024 e in omega (arith, l)) (omega arith)
-
 -- ---- the commands
 pub record Kept (f : Flow) : Type 0 where
   pub core : coreInRange (f .core) ≡ true
@@ -69,7 +65,7 @@ module _ (c : Core) (h : coreInRange c ≡ true) where
   unfolding jumped
   jumped-in-range taken z =
       picked (λ (r : Flowed). coreInRange (r .core) ≡ true) taken (at Done (moved (addressOf z) c)) (at Done (next c))
-      (λ _. moved-in-range c h (addressOf z) (address-low z)) (next-in-range c h)
+      (λ _. moved-in-range c h (addressOf z) (address-in z)) (next-in-range c h)
 
   wait-in-range : (w : Waited) → coreInRange (afterWait w c .core) ≡ true
   unfolding coreInRange
@@ -104,8 +100,8 @@ module _ (c : Core) (h : coreInRange c ≡ true) where
         (flow (at Done (withDepth (s .depth) (moved (addressOf z) c))) (s .entries))
         (λ _. refused-kept)
         (record {
-          core = placed-in-range (addressOf z) (s .depth) (address-low z) (l .push-depth e (c .depth) a (parts c h .depth));
-          entries = pushed-in-range e g (c .depth) a (next-low c h);
+          core = placed-in-range (addressOf z) (s .depth) (address-in z) (l .push-depth e (c .depth) a (parts c h .depth));
+          entries = pushed-in-range e g (c .depth) a (next-low (c .address) (parts c h .address));
         })
 
     returned-kept : Kept (returned c e)

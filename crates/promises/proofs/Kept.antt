@@ -12,7 +12,7 @@ use mir.Syntax.{w32}
 use mir.Val.{SFits}
 use Rattle.words.specs.Word.{pick}
 use Rattle.words.specs.Laws.{AllBytes}
-use Rattle.words.proofs.Bools.{is-true, picked}
+use Rattle.words.proofs.Bools.{is-true, picked, either}
 use Rattle.wire.specs.declared.Command.{Command}
 use Rattle.store.specs.Store.{putRecord}
 use Rattle.ranges.specs.Range.{entriesInRange}
@@ -28,11 +28,11 @@ use Rattle.status.specs.Status.{isDone}
 use Rattle.status.specs.declared.Status.the-variants.{Stored, Unknown, Value, Locked}
 use Rattle.settings.specs.Settings.{locked}
 use Rattle.jumping.specs.Jump.{addressOf}
+use Rattle.jumping.proofs.Addresses.{address-in}
 use Rattle.stepping.specs.Step.{State, step}
 use Rattle.keeping.specs.Sound.{Sound}
 use Rattle.keeping.specs.Laws as keep-laws
 use Rattle.keeping.proofs.Cores as cores
-use Rattle.keeping.proofs.Flows.{address-low}
 use Rattle.keeping.proofs.Rules as keeping
 use Rattle.resetting.specs.Laws as reset-laws
 use Rattle.resetting.proofs.Rules as resetting
@@ -47,11 +47,6 @@ use Rattle.outcomes.specs.Outcome.{Changed, changed, done, refused}
 use Rattle.storing.specs.Storing.{Kept, kept, withDownload, stored}
 use Rattle.promises.specs.Commands.{InRange}
 use Rattle.promises.proofs.Rules.{parts, whole, powered-in-range}
-
--- ---- what holds of both, each where its test does, holds of the one that is picked
-pub either : {A : Type 0} (P : A → Type 0) (b : Bool) (x y : A) → (b ≡ true → P x) → (b ≡ false → P y) → P (pick b x y)
-either P true x y f g = f refl
-either P false x y f g = g refl
 
 -- ---- between registers and the state of a step
 pub sound : (r : Registers) (m : List ℕ) → InRange r → Sound (stateOf r m)
@@ -99,7 +94,7 @@ module _ (c : Command) (core : Core) (d : Download) (e : List ℕ)
       let there = control.placed (withRunning true (control.afresh (addressOf z) core .core)) (control.afresh (addressOf z) core .entries) in
       picked (λ (q : control.Placed). Placed (control.with q d)) (eqb kind 0) (control.placed (withRunning true core) e) there
       (λ _. record { core = h; download = g; entries = f })
-      (record { core = afresh-core (addressOf z) true (address-low z); download = g; entries = no-entries })
+      (record { core = afresh-core (addressOf z) true (address-in z); download = g; entries = no-entries })
 
   controlled-kept : Placed (control.controlled c core d e)
   unfolding control.controlled control.reset coreInRange
@@ -119,7 +114,7 @@ module _ (c : Command) (core : Core) (d : Download) (e : List ℕ)
       (picked Placed (eqb (c .number) 131) resetting after-131
       (λ _. record { core = afresh-core 0 false (omega arith); download = g; entries = no-entries })
       (picked Placed (eqb (c .number) 132) starting after-132
-      (λ _. record { core = h; download = le-leb (addressOf (c .value .v)) 1024 (address-low (c .value .v)); entries = f })
+      (λ _. record { core = h; download = le-leb (addressOf (c .value .v)) 1024 (address-in (c .value .v)); entries = f })
       (picked Placed (eqb (c .number) 133) ending same (λ _. record { core = h; download = g; entries = f })
       (record { core = h; download = g; entries = f })))))
 

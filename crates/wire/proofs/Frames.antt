@@ -15,6 +15,7 @@ use mir.Val.{SFits}
 use Rattle.words.specs.declared.Four.{Four}
 use Rattle.words.specs.Bytes.{fourOf, fourAt, wordAt}
 use Rattle.words.specs.Laws.{AllBytes}
+use Rattle.words.proofs.Bools.{same-test}
 use Rattle.words.proofs.Trips.{split-join, join-split}
 use Rattle.checksum.specs.Checksum.{total, checksum, rightFrame}
 use Rattle.wire.specs.Frame.{seven, summed, frame, writtenStatus}
@@ -89,13 +90,6 @@ one-changed s i b k = right-by (set s i b) (length-set s i b ∙ p .0) ∙ by (l
         let last : getD (set s i b) 8 0 ≡ b = ap (λ (j : ℕ). getD (set s i b) j 0) (sym e) ∙ getD-set-same s i b 0 (omega (arith, p .0)) in
         rw (take-set-le 8 s i b g, last)
         (ne-eqb (checksum (take 8 s)) b (λ q. k .other (ap (λ (j : ℕ). getD s j 0) e ∙ sym (p .1) ∙ q)))
-
-same-test : (a b x y : ℕ) → (a ≡ b → x ≡ y) → (x ≡ y → a ≡ b) → eqb x y ≡ eqb a b
-same-test a b x y f g = by (eqb a b) refl
-  where
-    by : (t : Bool) → eqb a b ≡ t → eqb x y ≡ eqb a b
-    by true e = eq-eqb x y (f (eqb-true a b e)) ∙ sym e
-    by false e = ne-eqb x y (λ q. eqb-false a b e (g q)) ∙ sym e
 
 pub two-changed : (s : List ℕ) (i j b c : ℕ) → rightFrame s ≡ true → i < 8 → j < 8 → (j ≡ i → ⊥) → rightFrame (set (set s i b) j c) ≡ eqb ((b + c) % 256) ((getD s i 0 + getD s j 0) % 256)
 two-changed s i j b c r hi hj n =

@@ -1,7 +1,9 @@
--- Tests put together by `&&`, as types and as equations. Assumes nothing.
+-- Tests put together by `&&` and `||`, as types and as equations. Assumes nothing.
+use Prim.Native.Nat.{ℕ}
 use mathlib.Core.Path.{_≡_, refl, sym, subst}
-use mathlib.Core.Bool.{Bool, true, false, _&&_}
-use lib.Dec.{T}
+use mathlib.Core.Bool.{Bool, true, false, _&&_, _||_}
+use borrow.Author.Tests.{eq-eqb, ne-eqb, eqb-true, eqb-false}
+use lib.Dec.{T, eqb}
 use Rattle.words.specs.Word.{pick}
 
 pub is-true : (b : Bool) → T b → b ≡ true
@@ -27,6 +29,14 @@ pub each : (a b : Bool) → a && b ≡ true → (a ≡ true) × (b ≡ true)
 each true b e = (refl, e)
 each false b e = absurd (is-T false e)
 
+pub not-other : (a b : Bool) → a ≡ true → a && b ≡ false → b ≡ false
+not-other true b t e = e
+not-other false b t e = absurd (is-T false t)
+
+pub or-else : {A : Type 0} (a b : Bool) → a || b ≡ true → (a ≡ true → A) → (b ≡ true → A) → A
+or-else true b e f g = f refl
+or-else false b e f g = g e
+
 -- ---- a test of three parts, by the parts
 module _ (a b c : Bool) where
   pub all-three : {r : Bool} → a ≡ true → b ≡ true → r ≡ c → r ≡ a && b && c
@@ -42,3 +52,16 @@ module _ (a b c : Bool) where
 pub picked : {A : Type 0} (P : A → Type 0) (b : Bool) (x y : A) → (b ≡ true → P x) → P y → P (pick b x y)
 picked P true x y f g = f refl
 picked P false x y f g = g
+
+-- .. the second where it does not
+pub either : {A : Type 0} (P : A → Type 0) (b : Bool) (x y : A) → (b ≡ true → P x) → (b ≡ false → P y) → P (pick b x y)
+either P true x y f g = f refl
+either P false x y f g = g refl
+
+-- ---- two tests of numbers that hold together
+pub same-test : (a b x y : ℕ) → (a ≡ b → x ≡ y) → (x ≡ y → a ≡ b) → eqb x y ≡ eqb a b
+same-test a b x y f g = by (eqb a b) refl
+  where
+    by : (t : Bool) → eqb a b ≡ t → eqb x y ≡ t
+    by true e = eq-eqb x y (f (eqb-true a b e))
+    by false e = ne-eqb x y (λ q. eqb-false a b e (g q))

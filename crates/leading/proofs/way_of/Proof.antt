@@ -1,0 +1,65 @@
+-- `leading::way_of` meets its contract. Assumes nothing.
+use borrow.Author.Needs.{needs}
+use borrow.Author.Tests.{eq-eqb, ne-eqb, le-leb, lt-leb}
+use Rattle.leading.specs.Leading.{byDepth, onward}
+use Rattle.leading.proofs.way_of.Statement.{statement}
+use Rattle.leading.proofs.way_of.Tie as tie
+use Rattle.leading.proofs.way_of.Reads as reads
+use Rattle.leading.proofs.way_of.Lts as lts
+use Rattle.jumping.proofs.address_of.Reads as address-of-reads
+use Rattle.registers.proofs.next_address.Reads as next-address-reads
+
+next-address-requires : tie.Need-next-address-requires
+next-address-requires c κs = search needs
+
+address-of-requires : tie.Need-address-of-requires
+address-of-requires c κs = search needs
+
+add-t12 : tie.Need-add-t12
+add-t12 c = search needs
+
+returns : tie.Need-returns
+unfolding byDepth onward
+returns c = simp (c .before .match .keys3, le-leb _ _ (c .if1 .taken))
+
+returns-2 : tie.Need-returns-2
+unfolding byDepth onward
+returns-2 c = simp (c .before .match .keys4, eq-eqb _ _ (c .if2 .taken))
+
+returns-3 : tie.Need-returns-3
+unfolding byDepth onward
+returns-3 c = simp (c .match .keys1, c .before .address-of .ensures, c .before .before .next-address .ensures)
+
+returns-4 : tie.Need-returns-4
+unfolding byDepth onward
+returns-4 c = simp (c .match .keys2, c .before .address-of .ensures)
+
+returns-5 : tie.Need-returns-5
+unfolding byDepth onward
+returns-5 c = simp (c .before .match .keys3, lt-leb _ _ (c .if1 .left), c .before .before .address-of .ensures, c .before .before .before .next-address .ensures)
+
+returns-6 : tie.Need-returns-6
+unfolding byDepth onward
+returns-6 c = simp (c .before .match .keys4, ne-eqb _ _ (c .if2 .left))
+
+returns-7 : tie.Need-returns-7
+unfolding byDepth onward
+returns-7 c = simp (c .match .keys5)
+
+returns-8 : tie.Need-returns-8
+unfolding byDepth onward
+returns-8 c =
+    let r = c .match .rest in
+    simp (
+      ne-eqb _ _ (r .0 .0 .0 .0 .1),
+      ne-eqb _ _ (r .0 .0 .0 .1),
+      ne-eqb _ _ (r .0 .0 .1),
+      ne-eqb _ _ (r .0 .1),
+      ne-eqb _ _ (r .1),
+      c .before .before .next-address .ensures,
+    )
+
+pub way-of-spec : {M : Type 1} → statement M
+way-of-spec =
+    tie.close
+    (tie.spec next-address-requires address-of-requires returns add-t12 returns-2 returns-3 returns-4 returns-5 returns-6 returns-7 returns-8)

@@ -1,0 +1,29 @@
+-- "The program check passes a stored program exactly when no bad point is reachable from address 0"; "A refusal names the reachable bad
+-- point of lowest address, then lowest depth, and its status by the order above."
+use Prim.Native.Nat.{ℕ}
+use mathlib.Core.Path.{_≡_}
+use mathlib.Core.List.{List}
+use lib.ListN.{length}
+use Rattle.status.specs.Status.{numberOf}
+use Rattle.points.specs.Points.{first}
+use Rattle.points.specs.Reach.{Safe, Lowest}
+use Rattle.points.specs.declared.Point.{Point}
+use Rattle.leading.specs.Leading.{wayAt}
+use Rattle.checking.specs.declared.Verdict.{Verdict}
+use Rattle.checking.specs.declared.Verdict.the-variants.{Length, Passed, Refused}
+use Rattle.checking.specs.declared.Answer.{Answer}
+
+abbrev pub answer : ℕ → Point → Answer
+answer n p = record { number = n; point = p }
+
+-- 01's number of a verdict, and the point that it names; "With 20 .. every other number answered is 0", and a passed check names (0, 0)
+abbrev pub answerOf : Verdict → Answer
+answerOf Length = answer 20 first
+answerOf Passed = answer 100 first
+answerOf (Refused p s) = answer (numberOf s) p
+
+-- a verdict and its numbers are right for a program store; "20: a lent store or buffer of another length"
+abbrev pub Checked : List ℕ → Verdict → Answer → Type 0
+Checked program Length a = (length program ≡ 7168 → ⊥) × (a ≡ answer 20 first)
+Checked program Passed a = (length program ≡ 7168) × Safe (wayAt program) × (a ≡ answer 100 first)
+Checked program (Refused p s) a = (length program ≡ 7168) × Lowest (wayAt program) p s × (a ≡ answer (numberOf s) p)

@@ -1,0 +1,7 @@
+pub mod Refusals
+pub mod Stands
+pub mod Steps
+pub mod Kept
+pub mod Begun
+pub mod Named
+pub mod Safe

@@ -1,0 +1,45 @@
+-- "A passed program begun at 0, while its records are not written and no command runs it from another named address, under all other
+-- commands, samples and ticks never meets an unknown command, never leaves program memory, never has a jump, call or return ignored;
+-- its only refusals are those on 01's list of things known only while running."
+use Prim.Native.Nat.{ℕ, _<_}
+use mathlib.Core.Path.{_≡_}
+use mathlib.Core.Bool.{Bool, true, _||_}
+use mathlib.Core.List.{List}
+use lib.Dec.{eqb}
+use Rattle.store.specs.Store.{recordAt}
+use Rattle.status.specs.declared.Status.the-variants.{Done, Unknown}
+use Rattle.stepping.specs.Step.{State, Pins, step}
+use Rattle.board.specs.Step.{pinsOf}
+use Rattle.points.specs.Points.{point}
+use Rattle.leading.specs.Leading.{statusAt}
+use Rattle.checking.specs.Check.{Checked, answerOf}
+use Rattle.checking.specs.declared.Verdict.the-variants.{Passed}
+use Rattle.safety.specs.Events.{World, Event, after, begins, afterAll, Quiet, Makes}
+use Rattle.safety.specs.Listed.{Listed}
+
+-- 21 JC, 22 JA, 23 CSUB, 24 RSUB
+abbrev pub turns : ℕ → Bool
+turns n = eqb n 21 || eqb n 22 || eqb n 23 || eqb n 24
+
+pub record Fine (program : List ℕ) (p : Pins) (x : State) : Type 0 where
+  -- "never leaves program memory"
+  pub inside : x .core .address < 1024
+  -- "never meets an unknown command"
+  pub known : step program p x .status ≡ Unknown → ⊥
+  -- "never has a jump, call or return ignored"
+  pub obeyed : turns (recordAt program (x .core .address) .number) ≡ true → step program p x .status ≡ Done
+  -- "its only refusals are those on 01's list"
+  pub listed : Listed (recordAt program (x .core .address)) (step program p x .status)
+
+pub record Safety : Type 0 where
+  -- for all records that the check passes and all registers, every event that begins the program, every row of quiet events after that,
+  -- and every step that the next event makes
+  pub steps : (w : World) (e : Event) (es : List Event) (f : Event) (x : State) → Checked (w .program) Passed (answerOf Passed)
+      → begins w e ≡ true → Quiet (after w e) es → Makes (afterAll (after w e) es) f x
+      → Fine (w .program) (pinsOf (afterAll (after w e) es .registers)) x
+  -- and the program address stays within program memory between the events
+  pub inside : (w : World) (e : Event) (es : List Event) → Checked (w .program) Passed (answerOf Passed)
+      → begins w e ≡ true → Quiet (after w e) es → afterAll (after w e) es .registers .core .address < 1024
+  -- the status that the check names of a bad point is that of a step there, whatever the other registers and the stores are
+  pub named : (program : List ℕ) (p : Pins) (x : State) → (statusAt program (point (x .core .address) (x .core .depth)) ≡ Done → ⊥)
+      → step program p x .status ≡ statusAt program (point (x .core .address) (x .core .depth))

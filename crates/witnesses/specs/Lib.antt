@@ -1,0 +1,3 @@
+pub mod Programs
+pub mod Checks
+pub mod Runs

@@ -28,7 +28,7 @@ fn way_of(c: Command, p: Point) -> Way
         21 => Way::Both(target, next),
         22 => Way::To(target),
         23 => {
-            if Point::DEEPEST <= depth {
+            if p.is_deepest() {
                 return Way::Bad(Status::Unavailable);
             }
             let deeper = Point {
@@ -52,11 +52,10 @@ fn way_of(c: Command, p: Point) -> Way
 pub fn way_at(program: &[u8], p: Point) -> Way
     ensures { λ r. ⌜ r ≡ wayAt (now (program .entry)) p ⌝ }
 {
-    let address = p.address;
-    if Point::END <= address {
+    if p.is_end() {
         return Way::Bad(Status::Value);
     }
-    let c = record_at(program, address as usize);
+    let c = record_at(program, p.address as usize);
     let status = judge(c);
     if status.is_done() {
         way_of(c, p)

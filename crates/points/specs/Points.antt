@@ -2,6 +2,8 @@
 use Prim.Native.Nat.{ℕ, _+_, _*_, _/_, _%_, _<_, _≤_}
 use mathlib.Core.Path.{_≡_}
 use mathlib.Core.Logic.{_⊎_}
+use mathlib.Core.Bool.{Bool}
+use lib.Dec.{leb}
 use Rattle.points.specs.declared.Point.{Point}
 
 abbrev pub point : ℕ → ℕ → Point
@@ -13,6 +15,13 @@ first = point 0 0
 pub record IsPoint (p : Point) : Type 0 where
   pub address : p .address ≤ 1024
   pub depth : p .depth ≤ 8
+
+-- "address 1,024"; "depth 8"
+abbrev pub isEnd : Point → Bool
+isEnd p = leb 1024 (p .address)
+
+abbrev pub isDeepest : Point → Bool
+isDeepest p = leb 8 (p .depth)
 
 -- "lowest address, then lowest depth": p is q or comes before it
 abbrev pub NotAfter : Point → Point → Type 0

@@ -11,12 +11,17 @@ use points::Way;
 use status::Status;
 
 // 1,025 addresses with nine depths each.
-pub const POINTS: usize = 9225;
+const POINTS: usize = 9225;
 
-// The lowest bad point by its number, and its status; number POINTS where none is bad.
+// The lowest bad point by its number, and its status.
 pub struct Found {
     pub number: u16,
     pub status: Status,
+}
+
+impl Found {
+    // The number where no point is bad: that of none.
+    pub const NONE: u16 = 9225;
 }
 
 // Marks a point, unless it is marked, and puts it at the end of the queue.
@@ -83,7 +88,7 @@ fn look(program: &[u8], marks: &mut [u8; POINTS], queue: &mut [u16; POINTS]) -> 
     ensures { λ r. ⌜ FoundIn (wayAt (now (program .entry))) r ⌝ }
 {
     let mut found = Found {
-        number: 9225,
+        number: Found::NONE,
         status: Status::Done,
     };
     let mut n = begin(marks, queue);

@@ -1,6 +1,5 @@
 -- `leading::way_at` meets its contract. Assumes nothing.
 use borrow.Author.Needs.{needs}
-use borrow.Author.Tests.{le-leb, lt-leb}
 use Rattle.leading.specs.Leading.{recordStatus, statusAt, wayAt}
 use Rattle.leading.proofs.way_at.Statement.{statement}
 use Rattle.leading.proofs.way_at.Tie as tie
@@ -8,12 +7,16 @@ use Rattle.leading.proofs.way_at.Reads as reads
 use Rattle.leading.proofs.way_at.Lts as lts
 use Rattle.judge.proofs.judge.Reads as judge-reads
 use Rattle.leading.proofs.way_of.Reads as way-of-reads
+use Rattle.points.proofs.Point.is_end.Reads as is-end-reads
 use Rattle.status.proofs.Status.is_done.Reads as is-done-reads
 use Rattle.store.proofs.record_at.Reads as record-at-reads
 
+is-end-requires : tie.Need-is-end-requires
+is-end-requires c κs = search needs
+
 returns : tie.Need-returns
 unfolding wayAt statusAt
-returns c = simp (le-leb _ _ (c .if1 .taken))
+returns c = simp (← c .before .is-end .ensures, c .if1 .taken)
 
 cast-record-at : tie.Need-cast-record-at
 cast-record-at c = search needs
@@ -35,7 +38,8 @@ unfolding wayAt statusAt recordStatus
 returns-2 c =
     let b = c .before .before in
     let r = b .before .before in
-    simp (lt-leb _ _ (r .before .if1 .left), ← r .record-at .ensures, ← b .before .judge .ensures, ← b .is-done .ensures, c .before .if2 .taken)
+    let e = r .before .before in
+    simp (← e .before .is-end .ensures, e .if1 .left, ← r .record-at .ensures, ← b .before .judge .ensures, ← b .is-done .ensures, c .before .if2 .taken)
     (c .way-of .ensures)
 
 returns-3 : tie.Need-returns-3
@@ -43,12 +47,14 @@ unfolding wayAt statusAt recordStatus
 returns-3 c =
     let b = c .before in
     let r = b .before .before in
-    simp (lt-leb _ _ (r .before .if1 .left), ← r .record-at .ensures, ← b .before .judge .ensures, ← b .is-done .ensures, c .if2 .left)
+    let e = r .before .before in
+    simp (← e .before .is-end .ensures, e .if1 .left, ← r .record-at .ensures, ← b .before .judge .ensures, ← b .is-done .ensures, c .if2 .left)
 
 pub way-at-spec : {M : Type 1} → statement M
 way-at-spec =
     tie.close
     (tie.spec
+    is-end-requires
     returns
     cast-record-at
     record-at-requires

@@ -1,11 +1,14 @@
 -- `leading::way_of` meets its contract. Assumes nothing.
 use borrow.Author.Needs.{needs}
-use borrow.Author.Tests.{eq-eqb, ne-eqb, le-leb, lt-leb}
+use native.Mathlib.Omega.{arith}
+use mathlib.Core.Path.{sym, _∙_}
+use borrow.Author.Tests.{eq-eqb, ne-eqb, leb-false}
 use Rattle.leading.specs.Leading.{byDepth, onward}
 use Rattle.leading.proofs.way_of.Statement.{statement}
 use Rattle.leading.proofs.way_of.Tie as tie
 use Rattle.leading.proofs.way_of.Reads as reads
 use Rattle.leading.proofs.way_of.Lts as lts
+use Rattle.points.proofs.Point.is_deepest.Reads as is-deepest-reads
 use Rattle.jumping.proofs.address_of.Reads as address-of-reads
 use Rattle.registers.proofs.next_address.Reads as next-address-reads
 
@@ -15,12 +18,18 @@ next-address-requires c κs = search needs
 address-of-requires : tie.Need-address-of-requires
 address-of-requires c κs = search needs
 
+is-deepest-requires : tie.Need-is-deepest-requires
+is-deepest-requires c κs = search needs
+
 add-t12 : tie.Need-add-t12
-add-t12 c = search needs
+add-t12 c =
+    let d = c .before .before .before .before .before .args .p .depth in
+    let l = leb-false 8 d (sym (c .before .is-deepest .ensures) ∙ c .if1 .left) in
+    omega (arith, l)
 
 returns : tie.Need-returns
 unfolding byDepth onward
-returns c = simp (c .before .match .keys3, le-leb _ _ (c .if1 .taken))
+returns c = simp (c .before .before .match .keys3, ← c .before .is-deepest .ensures, c .if1 .taken)
 
 returns-2 : tie.Need-returns-2
 unfolding byDepth onward
@@ -36,7 +45,15 @@ returns-4 c = simp (c .match .keys2, c .before .address-of .ensures)
 
 returns-5 : tie.Need-returns-5
 unfolding byDepth onward
-returns-5 c = simp (c .before .match .keys3, lt-leb _ _ (c .if1 .left), c .before .before .address-of .ensures, c .before .before .before .next-address .ensures)
+returns-5 c =
+    let b = c .before .before in
+    simp (
+      b .match .keys3,
+      ← c .before .is-deepest .ensures,
+      c .if1 .left,
+      b .before .address-of .ensures,
+      b .before .before .next-address .ensures,
+    )
 
 returns-6 : tie.Need-returns-6
 unfolding byDepth onward
@@ -62,4 +79,4 @@ returns-8 c =
 pub way-of-spec : {M : Type 1} → statement M
 way-of-spec =
     tie.close
-    (tie.spec next-address-requires address-of-requires returns add-t12 returns-2 returns-3 returns-4 returns-5 returns-6 returns-7 returns-8)
+    (tie.spec next-address-requires address-of-requires is-deepest-requires returns add-t12 returns-2 returns-3 returns-4 returns-5 returns-6 returns-7 returns-8)

@@ -22,8 +22,12 @@ answerOf Length = answer 20 first
 answerOf Passed = answer 100 first
 answerOf (Refused p s) = answer (numberOf s) p
 
--- a verdict and its numbers are right for a program store; "20: a lent store or buffer of another length"
+-- a verdict is right for a program store; "20: a lent store or buffer of another length"
+abbrev pub Right : List ℕ → Verdict → Type 0
+Right program Length = length program ≡ 7168 → ⊥
+Right program Passed = (length program ≡ 7168) × Safe (wayAt program)
+Right program (Refused p s) = (length program ≡ 7168) × Lowest (wayAt program) p s
+
+-- and the numbers are its own
 abbrev pub Checked : List ℕ → Verdict → Answer → Type 0
-Checked program Length a = (length program ≡ 7168 → ⊥) × (a ≡ answer 20 first)
-Checked program Passed a = (length program ≡ 7168) × Safe (wayAt program) × (a ≡ answer 100 first)
-Checked program (Refused p s) a = (length program ≡ 7168) × Lowest (wayAt program) p s × (a ≡ answer (numberOf s) p)
+Checked program v a = Right program v × (a ≡ answerOf v)

@@ -21,7 +21,7 @@ use Rattle.status.specs.declared.Status.{Status}
 use Rattle.status.specs.declared.Status.the-variants.{Done, Value, Unavailable}
 use Rattle.status.proofs.Statuses.{is-done, not-done}
 use Rattle.judge.specs.Judge.{judged}
-use Rattle.points.specs.Points.{IsPoint, point}
+use Rattle.points.specs.Points.{IsPoint, isEnd, isDeepest}
 use Rattle.points.specs.Reach.{Leads, Reach}
 use Rattle.points.specs.declared.Point.{Point}
 use Rattle.points.specs.declared.Way.{Way}
@@ -65,43 +65,44 @@ badly s t w g =
 pub record Through (program : List ℕ) (p : Point) : Type 0 where
   pub inside : p .address < 1024
   pub judged : judged (recordAt program (p .address)) ≡ Done
-  pub depth : byDepth (recordAt program (p .address)) (p .depth) ≡ Done
+  pub depth : byDepth (recordAt program (p .address)) p ≡ Done
 
-record-through : (r : Command) (d : ℕ) → recordStatus r d ≡ Done → (judged r ≡ Done) × (byDepth r d ≡ Done)
+record-through : (r : Command) (p : Point) → recordStatus r p ≡ Done → (judged r ≡ Done) × (byDepth r p ≡ Done)
 unfolding recordStatus
-record-through r d =
-    either (λ (s : Status). s ≡ Done → (judged r ≡ Done) × (byDepth r d ≡ Done)) (isDone (judged r)) (byDepth r d) (judged r)
+record-through r p =
+    either (λ (s : Status). s ≡ Done → (judged r ≡ Done) × (byDepth r p ≡ Done)) (isDone (judged r)) (byDepth r p) (judged r)
     (λ e f. (is-done (judged r) e, f)) (λ e f. absurd (not-done (judged r) e f))
 
 pub not-bad : (program : List ℕ) (p : Point) → statusAt program p ≡ Done → Through program p
 unfolding statusAt
 not-bad program p =
     let r = recordAt program (p .address) in
-    either (λ (s : Status). s ≡ Done → Through program p) (leb 1024 (p .address)) Value (recordStatus r (p .depth))
+    either (λ (s : Status). s ≡ Done → Through program p) (isEnd p) Value (recordStatus r p)
     (λ _ e. absurd (not-done Value refl e))
-    (λ e f. let t = record-through r (p .depth) f in record { inside = leb-false 1024 (p .address) e; judged = t .0; depth = t .1 })
+    (λ e f. let t = record-through r p f in record { inside = leb-false 1024 (p .address) e; judged = t .0; depth = t .1 })
 
 -- a refusal that did not come
 refuses-not : (b : Bool) (s : Status) → pick b Unavailable s ≡ Done → (b ≡ false) × (s ≡ Done)
 refuses-not true s e = absurd (not-done Unavailable refl e)
 refuses-not false s e = (refl, e)
 
-module _ (r : Command) (d : ℕ) (h : byDepth r d ≡ Done) where
-  by-depth : (eqb (r .number) 23 && leb 8 d ≡ false) × (eqb (r .number) 24 && eqb d 0 ≡ false)
+module _ (r : Command) (p : Point) (h : byDepth r p ≡ Done) where
+  by-depth : (eqb (r .number) 23 && isDeepest p ≡ false) × (eqb (r .number) 24 && eqb (p .depth) 0 ≡ false)
   unfolding byDepth
   by-depth =
-      let a = refuses-not (eqb (r .number) 23 && leb 8 d) (pick (eqb (r .number) 24 && eqb d 0) Unavailable Done) h in
-      (a .0, refuses-not (eqb (r .number) 24 && eqb d 0) Done (a .1) .0)
+      let back = eqb (r .number) 24 && eqb (p .depth) 0 in
+      let a = refuses-not (eqb (r .number) 23 && isDeepest p) (pick back Unavailable Done) h in
+      (a .0, refuses-not back Done (a .1) .0)
 
   -- a call has room, and a return has an entry
-  pub call-room : eqb (r .number) 23 ≡ true → d < 8
-  call-room e = leb-false 8 d (not-other (eqb (r .number) 23) (leb 8 d) e (by-depth .0))
+  pub call-room : eqb (r .number) 23 ≡ true → p .depth < 8
+  call-room e = leb-false 8 (p .depth) (not-other (eqb (r .number) 23) (isDeepest p) e (by-depth .0))
 
-  pub return-entry : eqb (r .number) 24 ≡ true → eqb d 0 ≡ false
-  return-entry e = not-other (eqb (r .number) 24) (eqb d 0) e (by-depth .1)
+  pub return-entry : eqb (r .number) 24 ≡ true → eqb (p .depth) 0 ≡ false
+  return-entry e = not-other (eqb (r .number) 24) (eqb (p .depth) 0) e (by-depth .1)
 
 -- ---- points lead to points
-module _ (r : Command) (p q : Point) (v : IsPoint p) (h : byDepth r (p .depth) ≡ Done) where
+module _ (r : Command) (p q : Point) (v : IsPoint p) (h : byDepth r p ≡ Done) where
   is-target : (d : ℕ) → d ≤ 8 → q ≡ target r d → IsPoint q
   is-target d l e = subst IsPoint (sym e) (record { address = let a = address-low (r .value .v) in omega (arith, a); depth = l })
 
@@ -120,7 +121,7 @@ module _ (r : Command) (p q : Point) (v : IsPoint p) (h : byDepth r (p .depth) �
       picked P (eqb n 22) (To (target r (p .depth))) from-21 (λ _. is-target (p .depth) (v .depth))
       (picked P (eqb n 21) (Both (target r (p .depth)) (next p)) from-23 (λ _. ⊎-elim (is-target (p .depth) (v .depth)) is-next)
       (picked P (eqb n 23) (Both (target r (p .depth + 1)) (next p)) from-28
-      (λ e. ⊎-elim (is-target (p .depth + 1) (let l = call-room r (p .depth) h e in omega (arith, l))) is-next)
+      (λ e. ⊎-elim (is-target (p .depth + 1) (let l = call-room r p h e in omega (arith, l))) is-next)
       (picked P (eqb n 28) Nowhere from-24 (λ _ l. absurd l)
       (picked P (eqb n 24) Nowhere (To (next p)) (λ _ l. absurd l) is-next))))
 

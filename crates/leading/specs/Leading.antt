@@ -3,7 +3,7 @@
 use Prim.Native.Nat.{ℕ, _+_}
 use mathlib.Core.Bool.{_&&_}
 use mathlib.Core.List.{List}
-use lib.Dec.{eqb, leb}
+use lib.Dec.{eqb}
 use Rattle.words.specs.Word.{pick}
 use Rattle.wire.specs.declared.Command.{Command}
 use Rattle.store.specs.Store.{recordAt}
@@ -13,24 +13,24 @@ use Rattle.status.specs.Status.{isDone}
 use Rattle.status.specs.declared.Status.{Status}
 use Rattle.status.specs.declared.Status.the-variants.{Done, Value, Unavailable}
 use Rattle.judge.specs.Judge.{judged}
-use Rattle.points.specs.Points.{point}
+use Rattle.points.specs.Points.{point, isEnd, isDeepest}
 use Rattle.points.specs.declared.Point.{Point}
 use Rattle.points.specs.declared.Way.{Way}
 use Rattle.points.specs.declared.Way.the-variants.{Bad, Nowhere, To, Both}
 
 -- ---- bad points
 -- "Bad: .. CSUB at depth 8; RSUB at depth 0"
-unfoldable pub byDepth : Command → ℕ → Status
-byDepth r depth =
-    pick (eqb (r .number) 23 && leb 8 depth) Unavailable (pick (eqb (r .number) 24 && eqb depth 0) Unavailable Done)
+unfoldable pub byDepth : Command → Point → Status
+byDepth r p =
+    pick (eqb (r .number) 23 && isDeepest p) Unavailable (pick (eqb (r .number) 24 && eqb (p .depth) 0) Unavailable Done)
 
 -- "Bad: .. a record that would get 2 or 3; a wrong motor or bank; a value wrong by itself": what the judge refuses
-unfoldable pub recordStatus : Command → ℕ → Status
-recordStatus r depth = pick (isDone (judged r)) (byDepth r depth) (judged r)
+unfoldable pub recordStatus : Command → Point → Status
+recordStatus r p = pick (isDone (judged r)) (byDepth r p) (judged r)
 
 -- "Bad: address 1,024": the status of a point, which is bad exactly if that is not 100
 unfoldable pub statusAt : List ℕ → Point → Status
-statusAt program p = pick (leb 1024 (p .address)) Value (recordStatus (recordAt program (p .address)) (p .depth))
+statusAt program p = pick (isEnd p) Value (recordStatus (recordAt program (p .address)) p)
 
 -- ---- the points that one leads to
 abbrev pub next : Point → Point
@@ -53,7 +53,7 @@ unlessBad s w = pick (isDone s) w (Bad s)
 
 -- a record that the judge lets through
 abbrev pub wayOf : Command → Point → Way
-wayOf r p = unlessBad (byDepth r (p .depth)) (onward r p)
+wayOf r p = unlessBad (byDepth r p) (onward r p)
 
 unfoldable pub wayAt : List ℕ → Point → Way
 wayAt program p = unlessBad (statusAt program p) (onward (recordAt program (p .address)) p)

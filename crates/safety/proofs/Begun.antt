@@ -30,7 +30,7 @@ use Rattle.commands.specs.Obey as commands
 use Rattle.replying.specs.Reply.{byteOf}
 use Rattle.datagrams.specs.Datagram.{Board, board, lent, received, obeyedBy, unchanged}
 use Rattle.datagrams.specs.Datagram as datagrams
-use Rattle.safety.specs.Events.{World, Event, kept, after, carries, beginsBy, begins}
+use Rattle.safety.specs.Events.{World, Event, kept, after, carries, beginsBy, beginsProgram}
 use Rattle.safety.specs.Events as trace
 use Rattle.safety.proofs.Stands as stands
 use Rattle.safety.proofs.Kept.{Stood, powered-stood, zero-address}
@@ -116,8 +116,8 @@ up-begun program m r =
     picked (λ (o : events.Outcome). eqb (o .status) 100 ≡ true → Stood program (o .registers)) (eqb (length m) 364)
     (events.outcome 100 (powered m)) (events.outcome 20 r) (λ _ _. powered-stood program m) (λ e. absurd (false≢true e))
 
-pub event-begun : (w : World) (e : Event) → begins w e ≡ true → Begun (w .program) (after w e)
-unfolding begins after
+pub event-begun : (w : World) (e : Event) → beginsProgram w e ≡ true → Begun (w .program) (after w e)
+unfolding beginsProgram after
 event-begun w (trace.datagram bytes store reply) q = told-begun (board (w .registers) (w .program) store reply) bytes q
 event-begun w (trace.sample s) q = absurd (false≢true q)
 event-begun w trace.tick q = absurd (false≢true q)

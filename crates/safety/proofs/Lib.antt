@@ -4,4 +4,5 @@ pub mod Steps
 pub mod Kept
 pub mod Begun
 pub mod Named
+pub mod Records
 pub mod Safe

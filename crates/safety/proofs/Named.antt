@@ -16,6 +16,7 @@ use Rattle.status.specs.declared.Status.{Status}
 use Rattle.status.specs.declared.Status.the-variants.{Done, Value, Unavailable}
 use Rattle.status.proofs.Statuses.{is-done}
 use Rattle.points.specs.Points.{point}
+use Rattle.points.specs.declared.Point.{Point}
 use Rattle.judge.specs.Judge.{judged, isFlow}
 use Rattle.flow.specs.Flow.{called, returned, flowed}
 use Rattle.stepping.specs.Step.{State, Pins, After, after, only, carried, obeyed, step}
@@ -24,6 +25,9 @@ use Rattle.leading.specs.Leading.{byDepth, recordStatus, statusAt}
 module _ (r : Command) (p : Pins) (x : State) where
   abbrev d : ℕ
   d = x .core .depth
+
+  abbrev here : Point
+  here = point (x .core .address) d
 
   -- CSUB at depth 8, RSUB at depth 0
   call-full : r .number ≡ 23 → leb 8 d ≡ true → carried r p x .status ≡ Unavailable
@@ -34,7 +38,7 @@ module _ (r : Command) (p : Pins) (x : State) where
   unfolding carried isFlow flowed returned
   return-none q l = simp (q, l)
 
-  by-depth : (byDepth r d ≡ Done → ⊥) → carried r p x .status ≡ byDepth r d
+  by-depth : (byDepth r here ≡ Done → ⊥) → carried r p x .status ≡ byDepth r here
   unfolding byDepth
   by-depth =
       let P : Status → Type 0 = λ s. (s ≡ Done → ⊥) → carried r p x .status ≡ s in
@@ -58,11 +62,11 @@ module _ (r : Command) (p : Pins) (x : State) where
   unfolding obeyed
   obeyed-carried e = simp (is-done (judged r) e)
 
-  by-record : (recordStatus r d ≡ Done → ⊥) → obeyed r p x .status ≡ recordStatus r d
+  by-record : (recordStatus r here ≡ Done → ⊥) → obeyed r p x .status ≡ recordStatus r here
   unfolding recordStatus
   by-record =
       let P : Status → Type 0 = λ s. (s ≡ Done → ⊥) → obeyed r p x .status ≡ s in
-      either P (isDone (judged r)) (byDepth r d) (judged r)
+      either P (isDone (judged r)) (byDepth r here) (judged r)
       (λ e n. rw (obeyed-carried e) (by-depth n))
       (λ f _. refused-status f)
 
@@ -74,7 +78,7 @@ named program p x = by (leb 1024 (x .core .address))
     r : Command
     r = recordAt program (x .core .address)
 
-    by : (b : Bool) → (pick b Value (recordStatus r (x .core .depth)) ≡ Done → ⊥)
-        → pick b (after Value (only (stopped (x .core)) x)) (obeyed r p x) .status ≡ pick b Value (recordStatus r (x .core .depth))
+    by : (b : Bool) → (pick b Value (recordStatus r (point (x .core .address) (x .core .depth))) ≡ Done → ⊥)
+        → pick b (after Value (only (stopped (x .core)) x)) (obeyed r p x) .status ≡ pick b Value (recordStatus r (point (x .core .address) (x .core .depth)))
     by true n = refl
     by false n = by-record r p x n

@@ -109,7 +109,7 @@ module _ (program : List ℕ) (safe : Safe (wayAt program)) where
     return-led q = rw q (inr refl)
 
     pub room : r .number ≡ 23 → d < 8
-    room q = call-room r d (through .depth) (eq-eqb (r .number) 23 q)
+    room q = call-room r p (through .depth) (eq-eqb (r .number) 23 q)
 
     pub calls : r .number ≡ 23 → Stands program (addressOf (r .value .v)) (pushed e d (nextAddress a) .depth) (pushed e d (nextAddress a) .entries)
     unfolding pushed
@@ -130,7 +130,7 @@ module _ (program : List ℕ) (safe : Safe (wayAt program)) where
 
     -- ---- a return
     pub entry : r .number ≡ 24 → eqb d 0 ≡ false
-    entry q = return-entry r d (through .depth) (eq-eqb (r .number) 24 q)
+    entry q = return-entry r p (through .depth) (eq-eqb (r .number) 24 q)
 
     pub returns : r .number ≡ 24 → Stands program (popped e d .back) (popped e d .stack .depth) (popped e d .stack .entries)
     unfolding popped

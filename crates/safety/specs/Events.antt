@@ -73,12 +73,12 @@ abbrev pub beginsBy : Command → Bool
 beginsBy c =
     eqb (c .number) 131 || ((eqb (c .number) 129 && eqb (c .kind) 1) && sameW (c .value .v) (pos 0)) || eqb (c .number) 255
 
-unfoldable pub begins : World → Event → Bool
-begins w (datagram bytes store reply) = obeys beginsBy w bytes store reply
-begins w (sample s) = false
-begins w tick = false
-begins w (run budget store) = false
-begins w (power-up store) = eqb (events.poweredUp store (w .registers) .status) 100
+unfoldable pub beginsProgram : World → Event → Bool
+beginsProgram w (datagram bytes store reply) = obeys beginsBy w bytes store reply
+beginsProgram w (sample s) = false
+beginsProgram w tick = false
+beginsProgram w (run budget store) = false
+beginsProgram w (power-up store) = eqb (events.poweredUp store (w .registers) .status) 100
 
 -- "no command runs it from another named address": 129 type 1 with another value than 0
 abbrev pub fromAnother : Command → Bool
@@ -97,7 +97,8 @@ abbrev pub afterAll : World → List Event → World
 afterAll w [] = w
 afterAll w (e ∷ es) = afterAll (after w e) es
 
--- no event of the row writes a record, or runs the program from another named address
+-- no event of the row writes a record, or runs the program from another named address; "stopping, stepping and 129 type 0 after that
+-- keep it begun"
 pub data Quiet : World → List Event → Type 0 where
   none : {w : World} → Quiet w []
   also : {w : World} {e : Event} {es : List Event} → after w e .program ≡ w .program → runsFromAnother w e ≡ false → Quiet (after w e) es
@@ -106,8 +107,8 @@ pub data Quiet : World → List Event → Type 0 where
 -- ---- the steps that an event makes, each by the state that it is made from
 -- a run makes the steps that it answers (`run-steps` of running: it is so many single steps), and 130 makes one (`single-step` of
 -- promises)
-pub data Makes (w : World) : Event → State → Type 0 where
+pub data MakesStep (w : World) : Event → State → Type 0 where
   in-run : {budget : ℕ} {store : List ℕ} (j : ℕ) → j < runs.run (w .program) budget (w .registers) store .steps
-      → Makes w (run budget store) (walked (w .program) (pinsOf (w .registers)) j (begun (stateOf (w .registers) store)) .state)
+      → MakesStep w (run budget store) (walked (w .program) (pinsOf (w .registers)) j (begun (stateOf (w .registers) store)) .state)
   alone : {bytes store reply : List ℕ} → obeys (λ c. eqb (c .number) 130) w bytes store reply ≡ true
-      → Makes w (datagram bytes store reply) (stateOf (w .registers) store)
+      → MakesStep w (datagram bytes store reply) (stateOf (w .registers) store)

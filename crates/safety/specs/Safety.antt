@@ -14,7 +14,7 @@ use Rattle.points.specs.Points.{point}
 use Rattle.leading.specs.Leading.{statusAt}
 use Rattle.checking.specs.Check.{Checked, answerOf}
 use Rattle.checking.specs.declared.Verdict.the-variants.{Passed}
-use Rattle.safety.specs.Events.{World, Event, after, begins, afterAll, Quiet, Makes}
+use Rattle.safety.specs.Events.{World, Event, after, beginsProgram, afterAll, Quiet, MakesStep}
 use Rattle.safety.specs.Listed.{Listed}
 
 -- 21 JC, 22 JA, 23 CSUB, 24 RSUB
@@ -35,11 +35,11 @@ pub record Safety : Type 0 where
   -- for all records that the check passes and all registers, every event that begins the program, every row of quiet events after that,
   -- and every step that the next event makes
   pub steps : (w : World) (e : Event) (es : List Event) (f : Event) (x : State) → Checked (w .program) Passed (answerOf Passed)
-      → begins w e ≡ true → Quiet (after w e) es → Makes (afterAll (after w e) es) f x
+      → beginsProgram w e ≡ true → Quiet (after w e) es → MakesStep (afterAll (after w e) es) f x
       → Fine (w .program) (pinsOf (afterAll (after w e) es .registers)) x
   -- and the program address stays within program memory between the events
   pub inside : (w : World) (e : Event) (es : List Event) → Checked (w .program) Passed (answerOf Passed)
-      → begins w e ≡ true → Quiet (after w e) es → afterAll (after w e) es .registers .core .address < 1024
-  -- the status that the check names of a bad point is that of a step there, whatever the other registers and the stores are
+      → beginsProgram w e ≡ true → Quiet (after w e) es → afterAll (after w e) es .registers .core .address < 1024
+  -- the status that the check names of a bad point is that of a step there, whatever the other registers and the parameter store are
   pub named : (program : List ℕ) (p : Pins) (x : State) → (statusAt program (point (x .core .address) (x .core .depth)) ≡ Done → ⊥)
       → step program p x .status ≡ statusAt program (point (x .core .address) (x .core .depth))

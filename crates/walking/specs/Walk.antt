@@ -53,7 +53,7 @@ unfoldable pub tally : List ℕ → ℕ
 tally [] = 0
 tally (x ∷ xs) = x + tally xs
 
--- there is room for every point that is not marked, as those marked are those in the queue
+-- there is room for every point that is not marked: as many are marked as are in the queue
 pub record Room (size : ℕ) (x : Walk) : Type 0 where
   pub marks : length (x .marks) ≡ size
   pub small : (i : ℕ) → getD (x .marks) i 0 ≤ 1

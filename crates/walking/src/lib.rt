@@ -5,6 +5,7 @@ ghost use mathlib.Core.Path.{_≡_};
 ghost use Rattle.leading.specs.Leading.{wayAt};
 ghost use Rattle.walking.specs.Walk.{walk, Room, Blank, EndsIn, marked, markedAll, ends, noted};
 ghost use Rattle.walking.specs.Found.{FoundIn};
+ghost use Rattle.walking.specs.Laws.{Laws};
 use leading::way_at;
 use points::Point;
 use points::Way;
@@ -20,7 +21,7 @@ pub struct Found {
 }
 
 impl Found {
-    // The number where no point is bad: that of none.
+    // The number where no bad point is reached: that of no point.
     pub const NONE: u16 = 9225;
 }
 
@@ -111,3 +112,8 @@ pub fn lowest(program: &[u8]) -> Found
     let mut queue = [0u16; POINTS];
     look(program, &mut marks, &mut queue)
 }
+
+// The laws of the walk, held to be proved: the function does nothing.
+pub fn laws()
+    ensures { λ _. ⌜ Laws ⌝ }
+{}

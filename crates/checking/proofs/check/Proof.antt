@@ -22,12 +22,12 @@ numbered-requires c κs = search needs
 returns-2 : tie.Need-returns-2
 returns-2 c =
     let l = c .before .before .before .lowest in
-    (omega arith, refused-by _ (l .result) (l .ensures) _ (c .before .if2 .taken) (c .numbered .ensures), refl)
+    ((omega arith, refused-by _ (l .result) (l .ensures) _ (c .before .if2 .taken) (c .numbered .ensures)), refl)
 
 returns-3 : tie.Need-returns-3
 returns-3 c =
     let l = c .before .before .lowest in
-    (omega arith, passed-by _ (l .result) (l .ensures) (c .if2 .left), refl)
+    ((omega arith, passed-by _ (l .result) (l .ensures) (c .if2 .left)), refl)
 
 pub check-spec : {M : Type 1} → statement M
 check-spec = tie.close (tie.spec returns lowest-requires numbered-requires returns-2 returns-3)

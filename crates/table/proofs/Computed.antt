@@ -46,6 +46,7 @@ use Rattle.controlling.specs.Controlling as controlling-controlling
 use Rattle.commands.specs.Obey as commands-obey
 use Rattle.datagrams.specs.Datagram as datagrams-datagram
 use Rattle.table.specs.Table.{Table}
+use Rattle.table.proofs.Checks.{stopping-safe, calling-lowest, zero-lowest}
 use Rattle.table.specs.Examples.{Examples}
 
 pub table : Table
@@ -62,6 +63,9 @@ table =
       line-7-mod = refl;
       line-8-mul = refl;
       line-8-add = refl;
+      line-9 = ((refl, stopping-safe), refl);
+      line-10 = ((refl, calling-lowest), refl);
+      line-11 = ((refl, zero-lowest), refl);
     }
 
 pub examples : Examples

@@ -1,3 +1,4 @@
 pub mod Begun
+pub mod Programs
 pub mod Table
 pub mod Examples

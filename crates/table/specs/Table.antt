@@ -1,9 +1,14 @@
--- Lines 1 to 8 of 01's "Proved table". `negsuc n` is -(n + 1).
+-- 01's "Proved table", all its lines. `negsuc n` is -(n + 1).
 use mathlib.Core.Path.{_≡_}
 use mathlib.Core.List.{[], _∷_}
 use lib.IntN.{pos, negsuc}
 use Rattle.words.specs.Word.{word}
+use Rattle.status.specs.declared.Status.the-variants.{Unknown, Unavailable}
+use Rattle.points.specs.Points.{point}
+use Rattle.checking.specs.Check.{answer, Checked}
+use Rattle.checking.specs.declared.Verdict.the-variants.{Passed, Refused}
 use Rattle.table.specs.Begun.{replyTo, command, first, more, statusOf}
+use Rattle.table.specs.Programs.{stopping, callingItself, allZero}
 
 pub record Table : Type 0 where
   -- 1. 01 05 04 00 00 00 C8 00 D2: 02 01 03 05 00 00 00 00 0B
@@ -24,3 +29,9 @@ pub record Table : Type 0 where
   -- 8. 65536 MUL 65536 is 0; 2147483647 ADD 1 is -2147483648.
   pub line-8-mul : more (command 19 2 0 (pos 65536)) (first (command 19 9 0 (pos 65536))) .value ≡ word (pos 0)
   pub line-8-add : more (command 19 0 0 (pos 1)) (first (command 19 9 0 (pos 2147483647))) .value ≡ word (negsuc 2147483647)
+  -- 9. STOP at 0: passed.
+  pub line-9 : Checked stopping Passed (answer 100 (point 0 0))
+  -- 10. CSUB 0, STOP: refused at address 0, depth 8, status 6.
+  pub line-10 : Checked callingItself (Refused (point 0 8) Unavailable) (answer 6 (point 0 8))
+  -- 11. All zero: refused at (0, 0), status 2.
+  pub line-11 : Checked allZero (Refused (point 0 0) Unknown) (answer 2 (point 0 0))

@@ -1,4 +1,4 @@
-// Lines 1 to 8 of document 01's proved table, and worked examples of commands, steps and runs.
+// Document 01's proved table, and worked examples of commands, steps and runs.
 ghost use Rattle.table.specs.Examples.{Examples};
 ghost use Rattle.table.specs.Table.{Table};
 

@@ -1,8 +1,11 @@
 -- The check of each program, by a list of points that holds all that are reached. Assumes nothing.
+use Prim.Native.Nat.{ℕ}
+use native.Mathlib.Omega.{arith}
 use mathlib.Core.Path.{_≡_, refl}
 use mathlib.Core.Bool.{true}
+use lib.ListN.{length, replicate, length-replicate}
 use mathlib.Core.List.{[], _∷_}
-use Rattle.status.specs.declared.Status.the-variants.{Unknown, Unavailable}
+use Rattle.status.specs.declared.Status.the-variants.{Unknown, Kind, Value, Unavailable}
 use Rattle.points.specs.Points.{first, point}
 use Rattle.points.specs.Reach.{Reach, Safe, Lowest}
 use Rattle.points.specs.declared.Way.the-variants.{Bad}
@@ -21,15 +24,8 @@ use Rattle.waiting.specs.Waiting as waiting-waiting
 use Rattle.fields.specs.Fields as fields-fields
 use Rattle.judge.specs.Judge as judge-judge
 use Rattle.leading.specs.Leading as leading-leading
-use Rattle.witnesses.specs.Programs.{stopping, callingItself, allZero, working, refusing, untaken, deepening}
 use Rattle.witnesses.specs.Checks.{Checks}
-
-stopping-certified : certifies (wayAt stopping) never (point 0 0 ∷ []) ≡ true
-unfolding words-bytes.wordOf words-bytes.putWord rows-row.allowed rows-row.taken sheet-line.lines sheet-rows.parameters sheet-rows.rows sheet-sheet.rweRows sheet-sheet.rwRows sheet-sheet.rRows sheet-sheet.axis sheet-sheet.globals sheet-sheet.readOnly store-store.written store-store.cellAt store-store.putCell store-store.recordAt store-store.putRecord settings-settings.bankPlace settings-settings.settable settings-settings.kept settings-settings.isGlobal settings-settings.guarded settings-settings.locked jumping-jump.jumps jumping-jump.addressOf waiting-waiting.isOn waiting-waiting.happened waiting-waiting.tested waiting-waiting.waited fields-fields.writable fields-fields.storable fields-fields.sap fields-fields.has fields-fields.takes fields-fields.sgp judge-judge.judged judge-judge.isFlow judge-judge.isReading leading-leading.byDepth leading-leading.recordStatus leading-leading.statusAt leading-leading.onward leading-leading.wayAt certificate.has certificate.closed certificate.certifies certificate.goes
-stopping-certified = refl
-
-stopping-safe : Safe (wayAt stopping)
-stopping-safe = safe-by (wayAt stopping) (point 0 0 ∷ []) stopping-certified
+use Rattle.witnesses.specs.Programs.{working, refusing, untaken, deepening, twice, notOnSheet, falling}
 
 working-certified : certifies (wayAt working) never (point 0 0 ∷ point 1 0 ∷ point 2 0 ∷ point 3 0 ∷ point 4 1 ∷ point 5 1 ∷ point 6 1 ∷ point 7 1 ∷ point 8 1 ∷ point 9 2 ∷ point 10 2 ∷ []) ≡ true
 unfolding words-bytes.wordOf words-bytes.putWord rows-row.allowed rows-row.taken sheet-line.lines sheet-rows.parameters sheet-rows.rows sheet-sheet.rweRows sheet-sheet.rwRows sheet-sheet.rRows sheet-sheet.axis sheet-sheet.globals sheet-sheet.readOnly store-store.written store-store.cellAt store-store.putCell store-store.recordAt store-store.putRecord settings-settings.bankPlace settings-settings.settable settings-settings.kept settings-settings.isGlobal settings-settings.guarded settings-settings.locked jumping-jump.jumps jumping-jump.addressOf waiting-waiting.isOn waiting-waiting.happened waiting-waiting.tested waiting-waiting.waited fields-fields.writable fields-fields.storable fields-fields.sap fields-fields.has fields-fields.takes fields-fields.sgp judge-judge.judged judge-judge.isFlow judge-judge.isReading leading-leading.byDepth leading-leading.recordStatus leading-leading.statusAt leading-leading.onward leading-leading.wayAt certificate.has certificate.closed certificate.certifies certificate.goes
@@ -44,40 +40,6 @@ refusing-certified = refl
 
 refusing-safe : Safe (wayAt refusing)
 refusing-safe = safe-by (wayAt refusing) (point 0 0 ∷ point 1 0 ∷ point 2 0 ∷ point 3 0 ∷ point 4 0 ∷ point 5 0 ∷ point 6 0 ∷ point 7 0 ∷ point 8 0 ∷ point 9 0 ∷ point 10 0 ∷ point 11 0 ∷ point 12 0 ∷ point 13 0 ∷ point 14 0 ∷ point 15 0 ∷ point 16 0 ∷ point 17 0 ∷ point 18 0 ∷ point 19 0 ∷ point 20 0 ∷ []) refusing-certified
-
-calling-certified : certifies (wayAt callingItself) (notAfter (point 0 8)) (point 0 0 ∷ point 0 1 ∷ point 0 2 ∷ point 0 3 ∷ point 0 4 ∷ point 0 5 ∷ point 0 6 ∷ point 0 7 ∷ point 0 8 ∷ point 1 0 ∷ point 1 1 ∷ point 1 2 ∷ point 1 3 ∷ point 1 4 ∷ point 1 5 ∷ point 1 6 ∷ point 1 7 ∷ []) ≡ true
-unfolding words-bytes.wordOf words-bytes.putWord rows-row.allowed rows-row.taken sheet-line.lines sheet-rows.parameters sheet-rows.rows sheet-sheet.rweRows sheet-sheet.rwRows sheet-sheet.rRows sheet-sheet.axis sheet-sheet.globals sheet-sheet.readOnly store-store.written store-store.cellAt store-store.putCell store-store.recordAt store-store.putRecord settings-settings.bankPlace settings-settings.settable settings-settings.kept settings-settings.isGlobal settings-settings.guarded settings-settings.locked jumping-jump.jumps jumping-jump.addressOf waiting-waiting.isOn waiting-waiting.happened waiting-waiting.tested waiting-waiting.waited fields-fields.writable fields-fields.storable fields-fields.sap fields-fields.has fields-fields.takes fields-fields.sgp judge-judge.judged judge-judge.isFlow judge-judge.isReading leading-leading.byDepth leading-leading.recordStatus leading-leading.statusAt leading-leading.onward leading-leading.wayAt certificate.has certificate.closed certificate.certifies certificate.goes
-calling-certified = refl
-
-calling-goes : goes (wayAt callingItself) first (point 0 1 ∷ point 0 2 ∷ point 0 3 ∷ point 0 4 ∷ point 0 5 ∷ point 0 6 ∷ point 0 7 ∷ point 0 8 ∷ []) ≡ true
-unfolding words-bytes.wordOf words-bytes.putWord rows-row.allowed rows-row.taken sheet-line.lines sheet-rows.parameters sheet-rows.rows sheet-sheet.rweRows sheet-sheet.rwRows sheet-sheet.rRows sheet-sheet.axis sheet-sheet.globals sheet-sheet.readOnly store-store.written store-store.cellAt store-store.putCell store-store.recordAt store-store.putRecord settings-settings.bankPlace settings-settings.settable settings-settings.kept settings-settings.isGlobal settings-settings.guarded settings-settings.locked jumping-jump.jumps jumping-jump.addressOf waiting-waiting.isOn waiting-waiting.happened waiting-waiting.tested waiting-waiting.waited fields-fields.writable fields-fields.storable fields-fields.sap fields-fields.has fields-fields.takes fields-fields.sgp judge-judge.judged judge-judge.isFlow judge-judge.isReading leading-leading.byDepth leading-leading.recordStatus leading-leading.statusAt leading-leading.onward leading-leading.wayAt certificate.has certificate.closed certificate.certifies certificate.goes
-calling-goes = refl
-
-calling-bad : wayAt callingItself (point 0 8) ≡ Bad Unavailable
-unfolding words-bytes.wordOf words-bytes.putWord rows-row.allowed rows-row.taken sheet-line.lines sheet-rows.parameters sheet-rows.rows sheet-sheet.rweRows sheet-sheet.rwRows sheet-sheet.rRows sheet-sheet.axis sheet-sheet.globals sheet-sheet.readOnly store-store.written store-store.cellAt store-store.putCell store-store.recordAt store-store.putRecord settings-settings.bankPlace settings-settings.settable settings-settings.kept settings-settings.isGlobal settings-settings.guarded settings-settings.locked jumping-jump.jumps jumping-jump.addressOf waiting-waiting.isOn waiting-waiting.happened waiting-waiting.tested waiting-waiting.waited fields-fields.writable fields-fields.storable fields-fields.sap fields-fields.has fields-fields.takes fields-fields.sgp judge-judge.judged judge-judge.isFlow judge-judge.isReading leading-leading.byDepth leading-leading.recordStatus leading-leading.statusAt leading-leading.onward leading-leading.wayAt certificate.has certificate.closed certificate.certifies certificate.goes
-calling-bad = refl
-
-calling-lowest : Lowest (wayAt callingItself) (point 0 8) Unavailable
-calling-lowest =
-    lowest-by (wayAt callingItself) (point 0 8) Unavailable (point 0 0 ∷ point 0 1 ∷ point 0 2 ∷ point 0 3 ∷ point 0 4 ∷ point 0 5 ∷ point 0 6 ∷ point 0 7 ∷ point 0 8 ∷ point 1 0 ∷ point 1 1 ∷ point 1 2 ∷ point 1 3 ∷ point 1 4 ∷ point 1 5 ∷ point 1 6 ∷ point 1 7 ∷ []) calling-certified
-    (reached-by (wayAt callingItself) first (point 0 1 ∷ point 0 2 ∷ point 0 3 ∷ point 0 4 ∷ point 0 5 ∷ point 0 6 ∷ point 0 7 ∷ point 0 8 ∷ []) Reach.begin calling-goes) calling-bad
-
-zero-certified : certifies (wayAt allZero) (notAfter (point 0 0)) (point 0 0 ∷ []) ≡ true
-unfolding words-bytes.wordOf words-bytes.putWord rows-row.allowed rows-row.taken sheet-line.lines sheet-rows.parameters sheet-rows.rows sheet-sheet.rweRows sheet-sheet.rwRows sheet-sheet.rRows sheet-sheet.axis sheet-sheet.globals sheet-sheet.readOnly store-store.written store-store.cellAt store-store.putCell store-store.recordAt store-store.putRecord settings-settings.bankPlace settings-settings.settable settings-settings.kept settings-settings.isGlobal settings-settings.guarded settings-settings.locked jumping-jump.jumps jumping-jump.addressOf waiting-waiting.isOn waiting-waiting.happened waiting-waiting.tested waiting-waiting.waited fields-fields.writable fields-fields.storable fields-fields.sap fields-fields.has fields-fields.takes fields-fields.sgp judge-judge.judged judge-judge.isFlow judge-judge.isReading leading-leading.byDepth leading-leading.recordStatus leading-leading.statusAt leading-leading.onward leading-leading.wayAt certificate.has certificate.closed certificate.certifies certificate.goes
-zero-certified = refl
-
-zero-goes : goes (wayAt allZero) first ([]) ≡ true
-unfolding words-bytes.wordOf words-bytes.putWord rows-row.allowed rows-row.taken sheet-line.lines sheet-rows.parameters sheet-rows.rows sheet-sheet.rweRows sheet-sheet.rwRows sheet-sheet.rRows sheet-sheet.axis sheet-sheet.globals sheet-sheet.readOnly store-store.written store-store.cellAt store-store.putCell store-store.recordAt store-store.putRecord settings-settings.bankPlace settings-settings.settable settings-settings.kept settings-settings.isGlobal settings-settings.guarded settings-settings.locked jumping-jump.jumps jumping-jump.addressOf waiting-waiting.isOn waiting-waiting.happened waiting-waiting.tested waiting-waiting.waited fields-fields.writable fields-fields.storable fields-fields.sap fields-fields.has fields-fields.takes fields-fields.sgp judge-judge.judged judge-judge.isFlow judge-judge.isReading leading-leading.byDepth leading-leading.recordStatus leading-leading.statusAt leading-leading.onward leading-leading.wayAt certificate.has certificate.closed certificate.certifies certificate.goes
-zero-goes = refl
-
-zero-bad : wayAt allZero (point 0 0) ≡ Bad Unknown
-unfolding words-bytes.wordOf words-bytes.putWord rows-row.allowed rows-row.taken sheet-line.lines sheet-rows.parameters sheet-rows.rows sheet-sheet.rweRows sheet-sheet.rwRows sheet-sheet.rRows sheet-sheet.axis sheet-sheet.globals sheet-sheet.readOnly store-store.written store-store.cellAt store-store.putCell store-store.recordAt store-store.putRecord settings-settings.bankPlace settings-settings.settable settings-settings.kept settings-settings.isGlobal settings-settings.guarded settings-settings.locked jumping-jump.jumps jumping-jump.addressOf waiting-waiting.isOn waiting-waiting.happened waiting-waiting.tested waiting-waiting.waited fields-fields.writable fields-fields.storable fields-fields.sap fields-fields.has fields-fields.takes fields-fields.sgp judge-judge.judged judge-judge.isFlow judge-judge.isReading leading-leading.byDepth leading-leading.recordStatus leading-leading.statusAt leading-leading.onward leading-leading.wayAt certificate.has certificate.closed certificate.certifies certificate.goes
-zero-bad = refl
-
-zero-lowest : Lowest (wayAt allZero) (point 0 0) Unknown
-zero-lowest =
-    lowest-by (wayAt allZero) (point 0 0) Unknown (point 0 0 ∷ []) zero-certified
-    (reached-by (wayAt allZero) first ([]) Reach.begin zero-goes) zero-bad
 
 untaken-certified : certifies (wayAt untaken) (notAfter (point 2 0)) (point 0 0 ∷ point 1 0 ∷ point 2 0 ∷ []) ≡ true
 unfolding words-bytes.wordOf words-bytes.putWord rows-row.allowed rows-row.taken sheet-line.lines sheet-rows.parameters sheet-rows.rows sheet-sheet.rweRows sheet-sheet.rwRows sheet-sheet.rRows sheet-sheet.axis sheet-sheet.globals sheet-sheet.readOnly store-store.written store-store.cellAt store-store.putCell store-store.recordAt store-store.putRecord settings-settings.bankPlace settings-settings.settable settings-settings.kept settings-settings.isGlobal settings-settings.guarded settings-settings.locked jumping-jump.jumps jumping-jump.addressOf waiting-waiting.isOn waiting-waiting.happened waiting-waiting.tested waiting-waiting.waited fields-fields.writable fields-fields.storable fields-fields.sap fields-fields.has fields-fields.takes fields-fields.sgp judge-judge.judged judge-judge.isFlow judge-judge.isReading leading-leading.byDepth leading-leading.recordStatus leading-leading.statusAt leading-leading.onward leading-leading.wayAt certificate.has certificate.closed certificate.certifies certificate.goes
@@ -113,14 +75,69 @@ deepening-lowest =
     lowest-by (wayAt deepening) (point 3 8) Unavailable (point 0 0 ∷ point 1 0 ∷ point 2 1 ∷ point 3 1 ∷ point 4 1 ∷ point 2 2 ∷ point 3 2 ∷ point 4 2 ∷ point 2 3 ∷ point 3 3 ∷ point 4 3 ∷ point 2 4 ∷ point 3 4 ∷ point 4 4 ∷ point 2 5 ∷ point 3 5 ∷ point 4 5 ∷ point 2 6 ∷ point 3 6 ∷ point 4 6 ∷ point 2 7 ∷ point 3 7 ∷ point 4 7 ∷ point 2 8 ∷ point 3 8 ∷ point 4 8 ∷ []) deepening-certified
     (reached-by (wayAt deepening) first (point 2 1 ∷ point 3 1 ∷ point 2 2 ∷ point 3 2 ∷ point 2 3 ∷ point 3 3 ∷ point 2 4 ∷ point 3 4 ∷ point 2 5 ∷ point 3 5 ∷ point 2 6 ∷ point 3 6 ∷ point 2 7 ∷ point 3 7 ∷ point 2 8 ∷ point 3 8 ∷ []) Reach.begin deepening-goes) deepening-bad
 
+twice-certified : certifies (wayAt twice) (notAfter (point 3 0)) (point 0 0 ∷ point 1 0 ∷ point 3 0 ∷ point 4 0 ∷ []) ≡ true
+unfolding words-bytes.wordOf words-bytes.putWord rows-row.allowed rows-row.taken sheet-line.lines sheet-rows.parameters sheet-rows.rows sheet-sheet.rweRows sheet-sheet.rwRows sheet-sheet.rRows sheet-sheet.axis sheet-sheet.globals sheet-sheet.readOnly store-store.written store-store.cellAt store-store.putCell store-store.recordAt store-store.putRecord settings-settings.bankPlace settings-settings.settable settings-settings.kept settings-settings.isGlobal settings-settings.guarded settings-settings.locked jumping-jump.jumps jumping-jump.addressOf waiting-waiting.isOn waiting-waiting.happened waiting-waiting.tested waiting-waiting.waited fields-fields.writable fields-fields.storable fields-fields.sap fields-fields.has fields-fields.takes fields-fields.sgp judge-judge.judged judge-judge.isFlow judge-judge.isReading leading-leading.byDepth leading-leading.recordStatus leading-leading.statusAt leading-leading.onward leading-leading.wayAt certificate.has certificate.closed certificate.certifies certificate.goes
+twice-certified = refl
+
+twice-goes : goes (wayAt twice) first (point 1 0 ∷ point 3 0 ∷ []) ≡ true
+unfolding words-bytes.wordOf words-bytes.putWord rows-row.allowed rows-row.taken sheet-line.lines sheet-rows.parameters sheet-rows.rows sheet-sheet.rweRows sheet-sheet.rwRows sheet-sheet.rRows sheet-sheet.axis sheet-sheet.globals sheet-sheet.readOnly store-store.written store-store.cellAt store-store.putCell store-store.recordAt store-store.putRecord settings-settings.bankPlace settings-settings.settable settings-settings.kept settings-settings.isGlobal settings-settings.guarded settings-settings.locked jumping-jump.jumps jumping-jump.addressOf waiting-waiting.isOn waiting-waiting.happened waiting-waiting.tested waiting-waiting.waited fields-fields.writable fields-fields.storable fields-fields.sap fields-fields.has fields-fields.takes fields-fields.sgp judge-judge.judged judge-judge.isFlow judge-judge.isReading leading-leading.byDepth leading-leading.recordStatus leading-leading.statusAt leading-leading.onward leading-leading.wayAt certificate.has certificate.closed certificate.certifies certificate.goes
+twice-goes = refl
+
+twice-bad : wayAt twice (point 3 0) ≡ Bad Unavailable
+unfolding words-bytes.wordOf words-bytes.putWord rows-row.allowed rows-row.taken sheet-line.lines sheet-rows.parameters sheet-rows.rows sheet-sheet.rweRows sheet-sheet.rwRows sheet-sheet.rRows sheet-sheet.axis sheet-sheet.globals sheet-sheet.readOnly store-store.written store-store.cellAt store-store.putCell store-store.recordAt store-store.putRecord settings-settings.bankPlace settings-settings.settable settings-settings.kept settings-settings.isGlobal settings-settings.guarded settings-settings.locked jumping-jump.jumps jumping-jump.addressOf waiting-waiting.isOn waiting-waiting.happened waiting-waiting.tested waiting-waiting.waited fields-fields.writable fields-fields.storable fields-fields.sap fields-fields.has fields-fields.takes fields-fields.sgp judge-judge.judged judge-judge.isFlow judge-judge.isReading leading-leading.byDepth leading-leading.recordStatus leading-leading.statusAt leading-leading.onward leading-leading.wayAt certificate.has certificate.closed certificate.certifies certificate.goes
+twice-bad = refl
+
+twice-lowest : Lowest (wayAt twice) (point 3 0) Unavailable
+twice-lowest =
+    lowest-by (wayAt twice) (point 3 0) Unavailable (point 0 0 ∷ point 1 0 ∷ point 3 0 ∷ point 4 0 ∷ []) twice-certified
+    (reached-by (wayAt twice) first (point 1 0 ∷ point 3 0 ∷ []) Reach.begin twice-goes) twice-bad
+
+sheet-certified : certifies (wayAt notOnSheet) (notAfter (point 0 0)) (point 0 0 ∷ []) ≡ true
+unfolding words-bytes.wordOf words-bytes.putWord rows-row.allowed rows-row.taken sheet-line.lines sheet-rows.parameters sheet-rows.rows sheet-sheet.rweRows sheet-sheet.rwRows sheet-sheet.rRows sheet-sheet.axis sheet-sheet.globals sheet-sheet.readOnly store-store.written store-store.cellAt store-store.putCell store-store.recordAt store-store.putRecord settings-settings.bankPlace settings-settings.settable settings-settings.kept settings-settings.isGlobal settings-settings.guarded settings-settings.locked jumping-jump.jumps jumping-jump.addressOf waiting-waiting.isOn waiting-waiting.happened waiting-waiting.tested waiting-waiting.waited fields-fields.writable fields-fields.storable fields-fields.sap fields-fields.has fields-fields.takes fields-fields.sgp judge-judge.judged judge-judge.isFlow judge-judge.isReading leading-leading.byDepth leading-leading.recordStatus leading-leading.statusAt leading-leading.onward leading-leading.wayAt certificate.has certificate.closed certificate.certifies certificate.goes
+sheet-certified = refl
+
+sheet-goes : goes (wayAt notOnSheet) first ([]) ≡ true
+unfolding words-bytes.wordOf words-bytes.putWord rows-row.allowed rows-row.taken sheet-line.lines sheet-rows.parameters sheet-rows.rows sheet-sheet.rweRows sheet-sheet.rwRows sheet-sheet.rRows sheet-sheet.axis sheet-sheet.globals sheet-sheet.readOnly store-store.written store-store.cellAt store-store.putCell store-store.recordAt store-store.putRecord settings-settings.bankPlace settings-settings.settable settings-settings.kept settings-settings.isGlobal settings-settings.guarded settings-settings.locked jumping-jump.jumps jumping-jump.addressOf waiting-waiting.isOn waiting-waiting.happened waiting-waiting.tested waiting-waiting.waited fields-fields.writable fields-fields.storable fields-fields.sap fields-fields.has fields-fields.takes fields-fields.sgp judge-judge.judged judge-judge.isFlow judge-judge.isReading leading-leading.byDepth leading-leading.recordStatus leading-leading.statusAt leading-leading.onward leading-leading.wayAt certificate.has certificate.closed certificate.certifies certificate.goes
+sheet-goes = refl
+
+sheet-bad : wayAt notOnSheet (point 0 0) ≡ Bad Kind
+unfolding words-bytes.wordOf words-bytes.putWord rows-row.allowed rows-row.taken sheet-line.lines sheet-rows.parameters sheet-rows.rows sheet-sheet.rweRows sheet-sheet.rwRows sheet-sheet.rRows sheet-sheet.axis sheet-sheet.globals sheet-sheet.readOnly store-store.written store-store.cellAt store-store.putCell store-store.recordAt store-store.putRecord settings-settings.bankPlace settings-settings.settable settings-settings.kept settings-settings.isGlobal settings-settings.guarded settings-settings.locked jumping-jump.jumps jumping-jump.addressOf waiting-waiting.isOn waiting-waiting.happened waiting-waiting.tested waiting-waiting.waited fields-fields.writable fields-fields.storable fields-fields.sap fields-fields.has fields-fields.takes fields-fields.sgp judge-judge.judged judge-judge.isFlow judge-judge.isReading leading-leading.byDepth leading-leading.recordStatus leading-leading.statusAt leading-leading.onward leading-leading.wayAt certificate.has certificate.closed certificate.certifies certificate.goes
+sheet-bad = refl
+
+sheet-lowest : Lowest (wayAt notOnSheet) (point 0 0) Kind
+sheet-lowest =
+    lowest-by (wayAt notOnSheet) (point 0 0) Kind (point 0 0 ∷ []) sheet-certified
+    (reached-by (wayAt notOnSheet) first ([]) Reach.begin sheet-goes) sheet-bad
+
+falling-certified : certifies (wayAt falling) (notAfter (point 1024 0)) (point 0 0 ∷ point 1023 0 ∷ point 1024 0 ∷ []) ≡ true
+unfolding words-bytes.wordOf words-bytes.putWord rows-row.allowed rows-row.taken sheet-line.lines sheet-rows.parameters sheet-rows.rows sheet-sheet.rweRows sheet-sheet.rwRows sheet-sheet.rRows sheet-sheet.axis sheet-sheet.globals sheet-sheet.readOnly store-store.written store-store.cellAt store-store.putCell store-store.recordAt store-store.putRecord settings-settings.bankPlace settings-settings.settable settings-settings.kept settings-settings.isGlobal settings-settings.guarded settings-settings.locked jumping-jump.jumps jumping-jump.addressOf waiting-waiting.isOn waiting-waiting.happened waiting-waiting.tested waiting-waiting.waited fields-fields.writable fields-fields.storable fields-fields.sap fields-fields.has fields-fields.takes fields-fields.sgp judge-judge.judged judge-judge.isFlow judge-judge.isReading leading-leading.byDepth leading-leading.recordStatus leading-leading.statusAt leading-leading.onward leading-leading.wayAt certificate.has certificate.closed certificate.certifies certificate.goes
+falling-certified = refl
+
+falling-goes : goes (wayAt falling) first (point 1023 0 ∷ point 1024 0 ∷ []) ≡ true
+unfolding words-bytes.wordOf words-bytes.putWord rows-row.allowed rows-row.taken sheet-line.lines sheet-rows.parameters sheet-rows.rows sheet-sheet.rweRows sheet-sheet.rwRows sheet-sheet.rRows sheet-sheet.axis sheet-sheet.globals sheet-sheet.readOnly store-store.written store-store.cellAt store-store.putCell store-store.recordAt store-store.putRecord settings-settings.bankPlace settings-settings.settable settings-settings.kept settings-settings.isGlobal settings-settings.guarded settings-settings.locked jumping-jump.jumps jumping-jump.addressOf waiting-waiting.isOn waiting-waiting.happened waiting-waiting.tested waiting-waiting.waited fields-fields.writable fields-fields.storable fields-fields.sap fields-fields.has fields-fields.takes fields-fields.sgp judge-judge.judged judge-judge.isFlow judge-judge.isReading leading-leading.byDepth leading-leading.recordStatus leading-leading.statusAt leading-leading.onward leading-leading.wayAt certificate.has certificate.closed certificate.certifies certificate.goes
+falling-goes = refl
+
+falling-bad : wayAt falling (point 1024 0) ≡ Bad Value
+unfolding words-bytes.wordOf words-bytes.putWord rows-row.allowed rows-row.taken sheet-line.lines sheet-rows.parameters sheet-rows.rows sheet-sheet.rweRows sheet-sheet.rwRows sheet-sheet.rRows sheet-sheet.axis sheet-sheet.globals sheet-sheet.readOnly store-store.written store-store.cellAt store-store.putCell store-store.recordAt store-store.putRecord settings-settings.bankPlace settings-settings.settable settings-settings.kept settings-settings.isGlobal settings-settings.guarded settings-settings.locked jumping-jump.jumps jumping-jump.addressOf waiting-waiting.isOn waiting-waiting.happened waiting-waiting.tested waiting-waiting.waited fields-fields.writable fields-fields.storable fields-fields.sap fields-fields.has fields-fields.takes fields-fields.sgp judge-judge.judged judge-judge.isFlow judge-judge.isReading leading-leading.byDepth leading-leading.recordStatus leading-leading.statusAt leading-leading.onward leading-leading.wayAt certificate.has certificate.closed certificate.certifies certificate.goes
+falling-bad = refl
+
+falling-lowest : Lowest (wayAt falling) (point 1024 0) Value
+falling-lowest =
+    lowest-by (wayAt falling) (point 1024 0) Value (point 0 0 ∷ point 1023 0 ∷ point 1024 0 ∷ []) falling-certified
+    (reached-by (wayAt falling) first (point 1023 0 ∷ point 1024 0 ∷ []) Reach.begin falling-goes) falling-bad
+
+not-short : length {A = ℕ} (replicate 7161 0) ≡ 7168 → ⊥
+not-short e = omega (arith, e, length-replicate {A = ℕ} 7161 0)
+
 pub checks : Checks
 checks =
     record {
-      line-9 = (refl, stopping-safe, refl);
-      line-10 = (refl, calling-lowest, refl);
-      line-11 = (refl, zero-lowest, refl);
-      working-passed = (refl, working-safe, refl);
-      refusing-passed = (refl, refusing-safe, refl);
-      untaken-refused = (refl, untaken-lowest, refl);
-      deepening-refused = (refl, deepening-lowest, refl);
+      working-passed = ((refl, working-safe), refl);
+      refusing-passed = ((refl, refusing-safe), refl);
+      untaken-refused = ((refl, untaken-lowest), refl);
+      deepening-refused = ((refl, deepening-lowest), refl);
+      twice-refused = ((refl, twice-lowest), refl);
+      not-on-sheet-refused = ((refl, sheet-lowest), refl);
+      falling-refused = ((refl, falling-lowest), refl);
+      short-refused = (not-short, refl);
     }

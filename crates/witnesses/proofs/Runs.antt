@@ -51,42 +51,96 @@ use Rattle.commands.specs.Obey as commands-obey
 use Rattle.datagrams.specs.Datagram as datagrams-datagram
 use Rattle.safety.specs.Events as safety-events
 use Rattle.safety.specs.Listed as safety-listed
-use Rattle.safety.specs.Events.{World, after, begins, runsFromAnother, Quiet}
-use Rattle.safety.proofs.Begun.{event-begun}
+use Rattle.safety.specs.Events.{World, after, runsFromAnother, Quiet, MakesStep}
+use Rattle.safety.proofs.Records.{records-kept}
 use Rattle.witnesses.specs.Programs.{working}
-use Rattle.witnesses.specs.Runs.{runFromZero, run, tick, onBoard, Runs}
+use Rattle.witnesses.specs.Runs.{damaged, notOurs, oneStep, runFromZero, run, badSample, tick, powerUp, onBoard, Runs}
 
--- ---- `working` is begun, and what comes after that is quiet
-quiet-row : (w : World) → Quiet w (run ∷ tick ∷ tick ∷ run ∷ tick ∷ run ∷ [])
+-- ---- events that no datagram is among write no record and name no address, whatever the board
+quiet-run : (w : World) → Quiet w (run ∷ tick ∷ tick ∷ run ∷ tick ∷ run ∷ [])
 unfolding after runsFromAnother
-quiet-row w =
+quiet-run w =
     Quiet.also refl refl (Quiet.also refl refl (Quiet.also refl refl (Quiet.also refl refl (Quiet.also refl refl (Quiet.also refl refl Quiet.none)))))
 
-begins-again : begins (onBoard working) runFromZero ≡ true
-unfolding words-bytes.wordOf words-bytes.putWord wrapping-wrap.wrap rows-row.allowed rows-row.taken sheet-line.lines sheet-rows.parameters sheet-rows.rows sheet-sheet.rweRows sheet-sheet.rwRows sheet-sheet.rRows sheet-sheet.axis sheet-sheet.globals sheet-sheet.readOnly checksum-checksum.rightFrame wire-frame.putSeven wire-frame.frame store-store.written store-store.cellAt store-store.putCell store-store.recordAt store-store.putRecord serial-serial.takenOf stack-stack.pushed stack-stack.popped ranges-range.entriesInRange ranges-range.bitsInRange ranges-range.eachUpTo values-examples.defaultCells values-values.valuesInRange values-values.poweredAt values-values.poweredValues settings-settings.bankPlace settings-settings.settable settings-settings.kept settings-settings.isGlobal settings-settings.guarded settings-settings.locked calculating-calculate.calculated resetting-resetting.resetValues resetting-resetting.resetCells replying-reply.byteOf replying-reply.addresses replying-reply.replied flags-flags.raised jumping-jump.jumps jumping-jump.addressOf sampling-sample.settingsInRange sampling-sample.settled sampling-sample.sampleInRange waits-waits.ticked registers-range.coreInRange waiting-waiting.isOn waiting-waiting.happened waiting-waiting.tested waiting-waiting.waited flow-flow.jumped flow-flow.called flow-flow.returned flow-flow.halted flow-flow.waitedStep flow-flow.flowed fields-fields.writable fields-fields.storable fields-fields.sap fields-fields.has fields-fields.takes fields-fields.sgp effects-effects.setOutput motion-motion.withinLimit motion-motion.rightWithin motion-motion.leftWithin motion-motion.moveBy motion-motion.moveTo assigning-assigning.assign assigning-assigning.take assigning-assigning.keep numbers-numbers.intoAccumulator numbers-numbers.calc numbers-numbers.calcx numbers-numbers.clear judge-judge.judged judge-judge.isFlow judge-judge.isReading reading-reading.global reading-reading.digitalAt reading-reading.analogAt reading-reading.outputAt reading-reading.port reading-reading.read deciding-deciding.decidedBy deciding-deciding.worked stepping-step.carried stepping-step.obeyed stepping-step.step running-laws.walked running-run.run directing-direct.changed directing-direct.directed control-control.judged control-control.begun control-control.reset control-control.controlled control-control.shown control-control.answer board-range.registersInRange board-registers.unpowered board-registers.powered board-step.steps board-step.stepOnce events-events.poweredUp events-events.sampled events-events.ticked runs-run.run storing-storing.stored controlling-controlling.placed controlling-controlling.defaults controlling-controlling.controlled controlling-controlling.obeyedControl commands-obey.direct commands-obey.obeyed datagrams-datagram.obeyedBy datagrams-datagram.received datagrams-datagram.datagram safety-events.after safety-events.begins safety-events.runsFromAnother safety-listed.byValue safety-listed.byLock
-begins-again = refl
+quiet-rest : (w : World) → Quiet w (run ∷ badSample ∷ tick ∷ powerUp ∷ run ∷ [])
+unfolding after runsFromAnother
+quiet-rest w =
+    Quiet.also refl refl (Quiet.also refl refl (Quiet.also refl refl (Quiet.also refl refl (Quiet.also refl refl Quiet.none))))
 
-from-zero : runsFromAnother (onBoard working) runFromZero ≡ false
-unfolding words-bytes.wordOf words-bytes.putWord wrapping-wrap.wrap rows-row.allowed rows-row.taken sheet-line.lines sheet-rows.parameters sheet-rows.rows sheet-sheet.rweRows sheet-sheet.rwRows sheet-sheet.rRows sheet-sheet.axis sheet-sheet.globals sheet-sheet.readOnly checksum-checksum.rightFrame wire-frame.putSeven wire-frame.frame store-store.written store-store.cellAt store-store.putCell store-store.recordAt store-store.putRecord serial-serial.takenOf stack-stack.pushed stack-stack.popped ranges-range.entriesInRange ranges-range.bitsInRange ranges-range.eachUpTo values-examples.defaultCells values-values.valuesInRange values-values.poweredAt values-values.poweredValues settings-settings.bankPlace settings-settings.settable settings-settings.kept settings-settings.isGlobal settings-settings.guarded settings-settings.locked calculating-calculate.calculated resetting-resetting.resetValues resetting-resetting.resetCells replying-reply.byteOf replying-reply.addresses replying-reply.replied flags-flags.raised jumping-jump.jumps jumping-jump.addressOf sampling-sample.settingsInRange sampling-sample.settled sampling-sample.sampleInRange waits-waits.ticked registers-range.coreInRange waiting-waiting.isOn waiting-waiting.happened waiting-waiting.tested waiting-waiting.waited flow-flow.jumped flow-flow.called flow-flow.returned flow-flow.halted flow-flow.waitedStep flow-flow.flowed fields-fields.writable fields-fields.storable fields-fields.sap fields-fields.has fields-fields.takes fields-fields.sgp effects-effects.setOutput motion-motion.withinLimit motion-motion.rightWithin motion-motion.leftWithin motion-motion.moveBy motion-motion.moveTo assigning-assigning.assign assigning-assigning.take assigning-assigning.keep numbers-numbers.intoAccumulator numbers-numbers.calc numbers-numbers.calcx numbers-numbers.clear judge-judge.judged judge-judge.isFlow judge-judge.isReading reading-reading.global reading-reading.digitalAt reading-reading.analogAt reading-reading.outputAt reading-reading.port reading-reading.read deciding-deciding.decidedBy deciding-deciding.worked stepping-step.carried stepping-step.obeyed stepping-step.step running-laws.walked running-run.run directing-direct.changed directing-direct.directed control-control.judged control-control.begun control-control.reset control-control.controlled control-control.shown control-control.answer board-range.registersInRange board-registers.unpowered board-registers.powered board-step.steps board-step.stepOnce events-events.poweredUp events-events.sampled events-events.ticked runs-run.run storing-storing.stored controlling-controlling.placed controlling-controlling.defaults controlling-controlling.controlled controlling-controlling.obeyedControl commands-obey.direct commands-obey.obeyed datagrams-datagram.obeyedBy datagrams-datagram.received datagrams-datagram.datagram safety-events.after safety-events.begins safety-events.runsFromAnother safety-listed.byValue safety-listed.byLock
-from-zero = refl
+-- ---- the datagrams of a row
+abbrev once : World
+once = onBoard working
 
-working-quiet : Quiet (onBoard working) (runFromZero ∷ run ∷ tick ∷ tick ∷ run ∷ tick ∷ run ∷ [])
-working-quiet = Quiet.also (event-begun (onBoard working) runFromZero begins-again .records) from-zero (quiet-row (after (onBoard working) runFromZero))
+abbrev twice : World
+twice = after once damaged
+
+abbrev thrice : World
+thrice = after twice notOurs
+
+abbrev stepped : World
+stepped = after thrice oneStep
+
+-- none of the boards is in download mode, and none of the datagrams names another address
+no-download-1 : once .registers .download .on ≡ false
+unfolding words-bytes.wordOf words-bytes.putWord wrapping-wrap.wrap rows-row.allowed rows-row.taken sheet-line.lines sheet-rows.parameters sheet-rows.rows sheet-sheet.rweRows sheet-sheet.rwRows sheet-sheet.rRows sheet-sheet.axis sheet-sheet.globals sheet-sheet.readOnly checksum-checksum.rightFrame wire-frame.putSeven wire-frame.frame store-store.written store-store.cellAt store-store.putCell store-store.recordAt store-store.putRecord serial-serial.takenOf stack-stack.pushed stack-stack.popped ranges-range.entriesInRange ranges-range.bitsInRange ranges-range.eachUpTo values-examples.defaultCells values-values.valuesInRange values-values.poweredAt values-values.poweredValues settings-settings.bankPlace settings-settings.settable settings-settings.kept settings-settings.isGlobal settings-settings.guarded settings-settings.locked calculating-calculate.calculated resetting-resetting.resetValues resetting-resetting.resetCells replying-reply.byteOf replying-reply.addresses replying-reply.replied flags-flags.raised jumping-jump.jumps jumping-jump.addressOf sampling-sample.settingsInRange sampling-sample.settled sampling-sample.sampleInRange waits-waits.ticked registers-range.coreInRange waiting-waiting.isOn waiting-waiting.happened waiting-waiting.tested waiting-waiting.waited flow-flow.jumped flow-flow.called flow-flow.returned flow-flow.halted flow-flow.waitedStep flow-flow.flowed fields-fields.writable fields-fields.storable fields-fields.sap fields-fields.has fields-fields.takes fields-fields.sgp effects-effects.setOutput motion-motion.withinLimit motion-motion.rightWithin motion-motion.leftWithin motion-motion.moveBy motion-motion.moveTo assigning-assigning.assign assigning-assigning.take assigning-assigning.keep numbers-numbers.intoAccumulator numbers-numbers.calc numbers-numbers.calcx numbers-numbers.clear judge-judge.judged judge-judge.isFlow judge-judge.isReading reading-reading.global reading-reading.digitalAt reading-reading.analogAt reading-reading.outputAt reading-reading.port reading-reading.read deciding-deciding.decidedBy deciding-deciding.worked stepping-step.carried stepping-step.obeyed stepping-step.step running-laws.walked running-run.run directing-direct.changed directing-direct.directed control-control.judged control-control.begun control-control.reset control-control.controlled control-control.shown control-control.answer board-range.registersInRange board-registers.unpowered board-registers.powered board-step.steps board-step.stepOnce events-events.poweredUp events-events.sampled events-events.ticked runs-run.run storing-storing.stored controlling-controlling.placed controlling-controlling.defaults controlling-controlling.controlled controlling-controlling.obeyedControl commands-obey.direct commands-obey.obeyed datagrams-datagram.obeyedBy datagrams-datagram.received datagrams-datagram.datagram safety-events.after safety-events.beginsProgram safety-events.runsFromAnother safety-listed.byValue safety-listed.byLock
+no-download-1 = refl
+
+no-download-2 : twice .registers .download .on ≡ false
+unfolding words-bytes.wordOf words-bytes.putWord wrapping-wrap.wrap rows-row.allowed rows-row.taken sheet-line.lines sheet-rows.parameters sheet-rows.rows sheet-sheet.rweRows sheet-sheet.rwRows sheet-sheet.rRows sheet-sheet.axis sheet-sheet.globals sheet-sheet.readOnly checksum-checksum.rightFrame wire-frame.putSeven wire-frame.frame store-store.written store-store.cellAt store-store.putCell store-store.recordAt store-store.putRecord serial-serial.takenOf stack-stack.pushed stack-stack.popped ranges-range.entriesInRange ranges-range.bitsInRange ranges-range.eachUpTo values-examples.defaultCells values-values.valuesInRange values-values.poweredAt values-values.poweredValues settings-settings.bankPlace settings-settings.settable settings-settings.kept settings-settings.isGlobal settings-settings.guarded settings-settings.locked calculating-calculate.calculated resetting-resetting.resetValues resetting-resetting.resetCells replying-reply.byteOf replying-reply.addresses replying-reply.replied flags-flags.raised jumping-jump.jumps jumping-jump.addressOf sampling-sample.settingsInRange sampling-sample.settled sampling-sample.sampleInRange waits-waits.ticked registers-range.coreInRange waiting-waiting.isOn waiting-waiting.happened waiting-waiting.tested waiting-waiting.waited flow-flow.jumped flow-flow.called flow-flow.returned flow-flow.halted flow-flow.waitedStep flow-flow.flowed fields-fields.writable fields-fields.storable fields-fields.sap fields-fields.has fields-fields.takes fields-fields.sgp effects-effects.setOutput motion-motion.withinLimit motion-motion.rightWithin motion-motion.leftWithin motion-motion.moveBy motion-motion.moveTo assigning-assigning.assign assigning-assigning.take assigning-assigning.keep numbers-numbers.intoAccumulator numbers-numbers.calc numbers-numbers.calcx numbers-numbers.clear judge-judge.judged judge-judge.isFlow judge-judge.isReading reading-reading.global reading-reading.digitalAt reading-reading.analogAt reading-reading.outputAt reading-reading.port reading-reading.read deciding-deciding.decidedBy deciding-deciding.worked stepping-step.carried stepping-step.obeyed stepping-step.step running-laws.walked running-run.run directing-direct.changed directing-direct.directed control-control.judged control-control.begun control-control.reset control-control.controlled control-control.shown control-control.answer board-range.registersInRange board-registers.unpowered board-registers.powered board-step.steps board-step.stepOnce events-events.poweredUp events-events.sampled events-events.ticked runs-run.run storing-storing.stored controlling-controlling.placed controlling-controlling.defaults controlling-controlling.controlled controlling-controlling.obeyedControl commands-obey.direct commands-obey.obeyed datagrams-datagram.obeyedBy datagrams-datagram.received datagrams-datagram.datagram safety-events.after safety-events.beginsProgram safety-events.runsFromAnother safety-listed.byValue safety-listed.byLock
+no-download-2 = refl
+
+no-download-3 : thrice .registers .download .on ≡ false
+unfolding words-bytes.wordOf words-bytes.putWord wrapping-wrap.wrap rows-row.allowed rows-row.taken sheet-line.lines sheet-rows.parameters sheet-rows.rows sheet-sheet.rweRows sheet-sheet.rwRows sheet-sheet.rRows sheet-sheet.axis sheet-sheet.globals sheet-sheet.readOnly checksum-checksum.rightFrame wire-frame.putSeven wire-frame.frame store-store.written store-store.cellAt store-store.putCell store-store.recordAt store-store.putRecord serial-serial.takenOf stack-stack.pushed stack-stack.popped ranges-range.entriesInRange ranges-range.bitsInRange ranges-range.eachUpTo values-examples.defaultCells values-values.valuesInRange values-values.poweredAt values-values.poweredValues settings-settings.bankPlace settings-settings.settable settings-settings.kept settings-settings.isGlobal settings-settings.guarded settings-settings.locked calculating-calculate.calculated resetting-resetting.resetValues resetting-resetting.resetCells replying-reply.byteOf replying-reply.addresses replying-reply.replied flags-flags.raised jumping-jump.jumps jumping-jump.addressOf sampling-sample.settingsInRange sampling-sample.settled sampling-sample.sampleInRange waits-waits.ticked registers-range.coreInRange waiting-waiting.isOn waiting-waiting.happened waiting-waiting.tested waiting-waiting.waited flow-flow.jumped flow-flow.called flow-flow.returned flow-flow.halted flow-flow.waitedStep flow-flow.flowed fields-fields.writable fields-fields.storable fields-fields.sap fields-fields.has fields-fields.takes fields-fields.sgp effects-effects.setOutput motion-motion.withinLimit motion-motion.rightWithin motion-motion.leftWithin motion-motion.moveBy motion-motion.moveTo assigning-assigning.assign assigning-assigning.take assigning-assigning.keep numbers-numbers.intoAccumulator numbers-numbers.calc numbers-numbers.calcx numbers-numbers.clear judge-judge.judged judge-judge.isFlow judge-judge.isReading reading-reading.global reading-reading.digitalAt reading-reading.analogAt reading-reading.outputAt reading-reading.port reading-reading.read deciding-deciding.decidedBy deciding-deciding.worked stepping-step.carried stepping-step.obeyed stepping-step.step running-laws.walked running-run.run directing-direct.changed directing-direct.directed control-control.judged control-control.begun control-control.reset control-control.controlled control-control.shown control-control.answer board-range.registersInRange board-registers.unpowered board-registers.powered board-step.steps board-step.stepOnce events-events.poweredUp events-events.sampled events-events.ticked runs-run.run storing-storing.stored controlling-controlling.placed controlling-controlling.defaults controlling-controlling.controlled controlling-controlling.obeyedControl commands-obey.direct commands-obey.obeyed datagrams-datagram.obeyedBy datagrams-datagram.received datagrams-datagram.datagram safety-events.after safety-events.beginsProgram safety-events.runsFromAnother safety-listed.byValue safety-listed.byLock
+no-download-3 = refl
+
+no-download-4 : stepped .registers .download .on ≡ false
+unfolding words-bytes.wordOf words-bytes.putWord wrapping-wrap.wrap rows-row.allowed rows-row.taken sheet-line.lines sheet-rows.parameters sheet-rows.rows sheet-sheet.rweRows sheet-sheet.rwRows sheet-sheet.rRows sheet-sheet.axis sheet-sheet.globals sheet-sheet.readOnly checksum-checksum.rightFrame wire-frame.putSeven wire-frame.frame store-store.written store-store.cellAt store-store.putCell store-store.recordAt store-store.putRecord serial-serial.takenOf stack-stack.pushed stack-stack.popped ranges-range.entriesInRange ranges-range.bitsInRange ranges-range.eachUpTo values-examples.defaultCells values-values.valuesInRange values-values.poweredAt values-values.poweredValues settings-settings.bankPlace settings-settings.settable settings-settings.kept settings-settings.isGlobal settings-settings.guarded settings-settings.locked calculating-calculate.calculated resetting-resetting.resetValues resetting-resetting.resetCells replying-reply.byteOf replying-reply.addresses replying-reply.replied flags-flags.raised jumping-jump.jumps jumping-jump.addressOf sampling-sample.settingsInRange sampling-sample.settled sampling-sample.sampleInRange waits-waits.ticked registers-range.coreInRange waiting-waiting.isOn waiting-waiting.happened waiting-waiting.tested waiting-waiting.waited flow-flow.jumped flow-flow.called flow-flow.returned flow-flow.halted flow-flow.waitedStep flow-flow.flowed fields-fields.writable fields-fields.storable fields-fields.sap fields-fields.has fields-fields.takes fields-fields.sgp effects-effects.setOutput motion-motion.withinLimit motion-motion.rightWithin motion-motion.leftWithin motion-motion.moveBy motion-motion.moveTo assigning-assigning.assign assigning-assigning.take assigning-assigning.keep numbers-numbers.intoAccumulator numbers-numbers.calc numbers-numbers.calcx numbers-numbers.clear judge-judge.judged judge-judge.isFlow judge-judge.isReading reading-reading.global reading-reading.digitalAt reading-reading.analogAt reading-reading.outputAt reading-reading.port reading-reading.read deciding-deciding.decidedBy deciding-deciding.worked stepping-step.carried stepping-step.obeyed stepping-step.step running-laws.walked running-run.run directing-direct.changed directing-direct.directed control-control.judged control-control.begun control-control.reset control-control.controlled control-control.shown control-control.answer board-range.registersInRange board-registers.unpowered board-registers.powered board-step.steps board-step.stepOnce events-events.poweredUp events-events.sampled events-events.ticked runs-run.run storing-storing.stored controlling-controlling.placed controlling-controlling.defaults controlling-controlling.controlled controlling-controlling.obeyedControl commands-obey.direct commands-obey.obeyed datagrams-datagram.obeyedBy datagrams-datagram.received datagrams-datagram.datagram safety-events.after safety-events.beginsProgram safety-events.runsFromAnother safety-listed.byValue safety-listed.byLock
+no-download-4 = refl
+
+no-address-1 : runsFromAnother once damaged ≡ false
+unfolding words-bytes.wordOf words-bytes.putWord wrapping-wrap.wrap rows-row.allowed rows-row.taken sheet-line.lines sheet-rows.parameters sheet-rows.rows sheet-sheet.rweRows sheet-sheet.rwRows sheet-sheet.rRows sheet-sheet.axis sheet-sheet.globals sheet-sheet.readOnly checksum-checksum.rightFrame wire-frame.putSeven wire-frame.frame store-store.written store-store.cellAt store-store.putCell store-store.recordAt store-store.putRecord serial-serial.takenOf stack-stack.pushed stack-stack.popped ranges-range.entriesInRange ranges-range.bitsInRange ranges-range.eachUpTo values-examples.defaultCells values-values.valuesInRange values-values.poweredAt values-values.poweredValues settings-settings.bankPlace settings-settings.settable settings-settings.kept settings-settings.isGlobal settings-settings.guarded settings-settings.locked calculating-calculate.calculated resetting-resetting.resetValues resetting-resetting.resetCells replying-reply.byteOf replying-reply.addresses replying-reply.replied flags-flags.raised jumping-jump.jumps jumping-jump.addressOf sampling-sample.settingsInRange sampling-sample.settled sampling-sample.sampleInRange waits-waits.ticked registers-range.coreInRange waiting-waiting.isOn waiting-waiting.happened waiting-waiting.tested waiting-waiting.waited flow-flow.jumped flow-flow.called flow-flow.returned flow-flow.halted flow-flow.waitedStep flow-flow.flowed fields-fields.writable fields-fields.storable fields-fields.sap fields-fields.has fields-fields.takes fields-fields.sgp effects-effects.setOutput motion-motion.withinLimit motion-motion.rightWithin motion-motion.leftWithin motion-motion.moveBy motion-motion.moveTo assigning-assigning.assign assigning-assigning.take assigning-assigning.keep numbers-numbers.intoAccumulator numbers-numbers.calc numbers-numbers.calcx numbers-numbers.clear judge-judge.judged judge-judge.isFlow judge-judge.isReading reading-reading.global reading-reading.digitalAt reading-reading.analogAt reading-reading.outputAt reading-reading.port reading-reading.read deciding-deciding.decidedBy deciding-deciding.worked stepping-step.carried stepping-step.obeyed stepping-step.step running-laws.walked running-run.run directing-direct.changed directing-direct.directed control-control.judged control-control.begun control-control.reset control-control.controlled control-control.shown control-control.answer board-range.registersInRange board-registers.unpowered board-registers.powered board-step.steps board-step.stepOnce events-events.poweredUp events-events.sampled events-events.ticked runs-run.run storing-storing.stored controlling-controlling.placed controlling-controlling.defaults controlling-controlling.controlled controlling-controlling.obeyedControl commands-obey.direct commands-obey.obeyed datagrams-datagram.obeyedBy datagrams-datagram.received datagrams-datagram.datagram safety-events.after safety-events.beginsProgram safety-events.runsFromAnother safety-listed.byValue safety-listed.byLock
+no-address-1 = refl
+
+no-address-2 : runsFromAnother twice notOurs ≡ false
+unfolding words-bytes.wordOf words-bytes.putWord wrapping-wrap.wrap rows-row.allowed rows-row.taken sheet-line.lines sheet-rows.parameters sheet-rows.rows sheet-sheet.rweRows sheet-sheet.rwRows sheet-sheet.rRows sheet-sheet.axis sheet-sheet.globals sheet-sheet.readOnly checksum-checksum.rightFrame wire-frame.putSeven wire-frame.frame store-store.written store-store.cellAt store-store.putCell store-store.recordAt store-store.putRecord serial-serial.takenOf stack-stack.pushed stack-stack.popped ranges-range.entriesInRange ranges-range.bitsInRange ranges-range.eachUpTo values-examples.defaultCells values-values.valuesInRange values-values.poweredAt values-values.poweredValues settings-settings.bankPlace settings-settings.settable settings-settings.kept settings-settings.isGlobal settings-settings.guarded settings-settings.locked calculating-calculate.calculated resetting-resetting.resetValues resetting-resetting.resetCells replying-reply.byteOf replying-reply.addresses replying-reply.replied flags-flags.raised jumping-jump.jumps jumping-jump.addressOf sampling-sample.settingsInRange sampling-sample.settled sampling-sample.sampleInRange waits-waits.ticked registers-range.coreInRange waiting-waiting.isOn waiting-waiting.happened waiting-waiting.tested waiting-waiting.waited flow-flow.jumped flow-flow.called flow-flow.returned flow-flow.halted flow-flow.waitedStep flow-flow.flowed fields-fields.writable fields-fields.storable fields-fields.sap fields-fields.has fields-fields.takes fields-fields.sgp effects-effects.setOutput motion-motion.withinLimit motion-motion.rightWithin motion-motion.leftWithin motion-motion.moveBy motion-motion.moveTo assigning-assigning.assign assigning-assigning.take assigning-assigning.keep numbers-numbers.intoAccumulator numbers-numbers.calc numbers-numbers.calcx numbers-numbers.clear judge-judge.judged judge-judge.isFlow judge-judge.isReading reading-reading.global reading-reading.digitalAt reading-reading.analogAt reading-reading.outputAt reading-reading.port reading-reading.read deciding-deciding.decidedBy deciding-deciding.worked stepping-step.carried stepping-step.obeyed stepping-step.step running-laws.walked running-run.run directing-direct.changed directing-direct.directed control-control.judged control-control.begun control-control.reset control-control.controlled control-control.shown control-control.answer board-range.registersInRange board-registers.unpowered board-registers.powered board-step.steps board-step.stepOnce events-events.poweredUp events-events.sampled events-events.ticked runs-run.run storing-storing.stored controlling-controlling.placed controlling-controlling.defaults controlling-controlling.controlled controlling-controlling.obeyedControl commands-obey.direct commands-obey.obeyed datagrams-datagram.obeyedBy datagrams-datagram.received datagrams-datagram.datagram safety-events.after safety-events.beginsProgram safety-events.runsFromAnother safety-listed.byValue safety-listed.byLock
+no-address-2 = refl
+
+no-address-3 : runsFromAnother thrice oneStep ≡ false
+unfolding words-bytes.wordOf words-bytes.putWord wrapping-wrap.wrap rows-row.allowed rows-row.taken sheet-line.lines sheet-rows.parameters sheet-rows.rows sheet-sheet.rweRows sheet-sheet.rwRows sheet-sheet.rRows sheet-sheet.axis sheet-sheet.globals sheet-sheet.readOnly checksum-checksum.rightFrame wire-frame.putSeven wire-frame.frame store-store.written store-store.cellAt store-store.putCell store-store.recordAt store-store.putRecord serial-serial.takenOf stack-stack.pushed stack-stack.popped ranges-range.entriesInRange ranges-range.bitsInRange ranges-range.eachUpTo values-examples.defaultCells values-values.valuesInRange values-values.poweredAt values-values.poweredValues settings-settings.bankPlace settings-settings.settable settings-settings.kept settings-settings.isGlobal settings-settings.guarded settings-settings.locked calculating-calculate.calculated resetting-resetting.resetValues resetting-resetting.resetCells replying-reply.byteOf replying-reply.addresses replying-reply.replied flags-flags.raised jumping-jump.jumps jumping-jump.addressOf sampling-sample.settingsInRange sampling-sample.settled sampling-sample.sampleInRange waits-waits.ticked registers-range.coreInRange waiting-waiting.isOn waiting-waiting.happened waiting-waiting.tested waiting-waiting.waited flow-flow.jumped flow-flow.called flow-flow.returned flow-flow.halted flow-flow.waitedStep flow-flow.flowed fields-fields.writable fields-fields.storable fields-fields.sap fields-fields.has fields-fields.takes fields-fields.sgp effects-effects.setOutput motion-motion.withinLimit motion-motion.rightWithin motion-motion.leftWithin motion-motion.moveBy motion-motion.moveTo assigning-assigning.assign assigning-assigning.take assigning-assigning.keep numbers-numbers.intoAccumulator numbers-numbers.calc numbers-numbers.calcx numbers-numbers.clear judge-judge.judged judge-judge.isFlow judge-judge.isReading reading-reading.global reading-reading.digitalAt reading-reading.analogAt reading-reading.outputAt reading-reading.port reading-reading.read deciding-deciding.decidedBy deciding-deciding.worked stepping-step.carried stepping-step.obeyed stepping-step.step running-laws.walked running-run.run directing-direct.changed directing-direct.directed control-control.judged control-control.begun control-control.reset control-control.controlled control-control.shown control-control.answer board-range.registersInRange board-registers.unpowered board-registers.powered board-step.steps board-step.stepOnce events-events.poweredUp events-events.sampled events-events.ticked runs-run.run storing-storing.stored controlling-controlling.placed controlling-controlling.defaults controlling-controlling.controlled controlling-controlling.obeyedControl commands-obey.direct commands-obey.obeyed datagrams-datagram.obeyedBy datagrams-datagram.received datagrams-datagram.datagram safety-events.after safety-events.beginsProgram safety-events.runsFromAnother safety-listed.byValue safety-listed.byLock
+no-address-3 = refl
+
+no-address-4 : runsFromAnother stepped runFromZero ≡ false
+unfolding words-bytes.wordOf words-bytes.putWord wrapping-wrap.wrap rows-row.allowed rows-row.taken sheet-line.lines sheet-rows.parameters sheet-rows.rows sheet-sheet.rweRows sheet-sheet.rwRows sheet-sheet.rRows sheet-sheet.axis sheet-sheet.globals sheet-sheet.readOnly checksum-checksum.rightFrame wire-frame.putSeven wire-frame.frame store-store.written store-store.cellAt store-store.putCell store-store.recordAt store-store.putRecord serial-serial.takenOf stack-stack.pushed stack-stack.popped ranges-range.entriesInRange ranges-range.bitsInRange ranges-range.eachUpTo values-examples.defaultCells values-values.valuesInRange values-values.poweredAt values-values.poweredValues settings-settings.bankPlace settings-settings.settable settings-settings.kept settings-settings.isGlobal settings-settings.guarded settings-settings.locked calculating-calculate.calculated resetting-resetting.resetValues resetting-resetting.resetCells replying-reply.byteOf replying-reply.addresses replying-reply.replied flags-flags.raised jumping-jump.jumps jumping-jump.addressOf sampling-sample.settingsInRange sampling-sample.settled sampling-sample.sampleInRange waits-waits.ticked registers-range.coreInRange waiting-waiting.isOn waiting-waiting.happened waiting-waiting.tested waiting-waiting.waited flow-flow.jumped flow-flow.called flow-flow.returned flow-flow.halted flow-flow.waitedStep flow-flow.flowed fields-fields.writable fields-fields.storable fields-fields.sap fields-fields.has fields-fields.takes fields-fields.sgp effects-effects.setOutput motion-motion.withinLimit motion-motion.rightWithin motion-motion.leftWithin motion-motion.moveBy motion-motion.moveTo assigning-assigning.assign assigning-assigning.take assigning-assigning.keep numbers-numbers.intoAccumulator numbers-numbers.calc numbers-numbers.calcx numbers-numbers.clear judge-judge.judged judge-judge.isFlow judge-judge.isReading reading-reading.global reading-reading.digitalAt reading-reading.analogAt reading-reading.outputAt reading-reading.port reading-reading.read deciding-deciding.decidedBy deciding-deciding.worked stepping-step.carried stepping-step.obeyed stepping-step.step running-laws.walked running-run.run directing-direct.changed directing-direct.directed control-control.judged control-control.begun control-control.reset control-control.controlled control-control.shown control-control.answer board-range.registersInRange board-registers.unpowered board-registers.powered board-step.steps board-step.stepOnce events-events.poweredUp events-events.sampled events-events.ticked runs-run.run storing-storing.stored controlling-controlling.placed controlling-controlling.defaults controlling-controlling.controlled controlling-controlling.obeyedControl commands-obey.direct commands-obey.obeyed datagrams-datagram.obeyedBy datagrams-datagram.received datagrams-datagram.datagram safety-events.after safety-events.beginsProgram safety-events.runsFromAnother safety-listed.byValue safety-listed.byLock
+no-address-4 = refl
+
+quiet : Quiet once (damaged ∷ notOurs ∷ oneStep ∷ runFromZero ∷ run ∷ badSample ∷ tick ∷ powerUp ∷ run ∷ [])
+quiet =
+    Quiet.also (records-kept once damaged no-download-1) no-address-1
+    (Quiet.also (records-kept twice notOurs no-download-2) no-address-2
+    (Quiet.also (records-kept thrice oneStep no-download-3) no-address-3
+    (Quiet.also (records-kept stepped runFromZero no-download-4) no-address-4 (quiet-rest (after stepped runFromZero)))))
 
 pub runs : Runs
-unfolding words-bytes.wordOf words-bytes.putWord wrapping-wrap.wrap rows-row.allowed rows-row.taken sheet-line.lines sheet-rows.parameters sheet-rows.rows sheet-sheet.rweRows sheet-sheet.rwRows sheet-sheet.rRows sheet-sheet.axis sheet-sheet.globals sheet-sheet.readOnly checksum-checksum.rightFrame wire-frame.putSeven wire-frame.frame store-store.written store-store.cellAt store-store.putCell store-store.recordAt store-store.putRecord serial-serial.takenOf stack-stack.pushed stack-stack.popped ranges-range.entriesInRange ranges-range.bitsInRange ranges-range.eachUpTo values-examples.defaultCells values-values.valuesInRange values-values.poweredAt values-values.poweredValues settings-settings.bankPlace settings-settings.settable settings-settings.kept settings-settings.isGlobal settings-settings.guarded settings-settings.locked calculating-calculate.calculated resetting-resetting.resetValues resetting-resetting.resetCells replying-reply.byteOf replying-reply.addresses replying-reply.replied flags-flags.raised jumping-jump.jumps jumping-jump.addressOf sampling-sample.settingsInRange sampling-sample.settled sampling-sample.sampleInRange waits-waits.ticked registers-range.coreInRange waiting-waiting.isOn waiting-waiting.happened waiting-waiting.tested waiting-waiting.waited flow-flow.jumped flow-flow.called flow-flow.returned flow-flow.halted flow-flow.waitedStep flow-flow.flowed fields-fields.writable fields-fields.storable fields-fields.sap fields-fields.has fields-fields.takes fields-fields.sgp effects-effects.setOutput motion-motion.withinLimit motion-motion.rightWithin motion-motion.leftWithin motion-motion.moveBy motion-motion.moveTo assigning-assigning.assign assigning-assigning.take assigning-assigning.keep numbers-numbers.intoAccumulator numbers-numbers.calc numbers-numbers.calcx numbers-numbers.clear judge-judge.judged judge-judge.isFlow judge-judge.isReading reading-reading.global reading-reading.digitalAt reading-reading.analogAt reading-reading.outputAt reading-reading.port reading-reading.read deciding-deciding.decidedBy deciding-deciding.worked stepping-step.carried stepping-step.obeyed stepping-step.step running-laws.walked running-run.run directing-direct.changed directing-direct.directed control-control.judged control-control.begun control-control.reset control-control.controlled control-control.shown control-control.answer board-range.registersInRange board-registers.unpowered board-registers.powered board-step.steps board-step.stepOnce events-events.poweredUp events-events.sampled events-events.ticked runs-run.run storing-storing.stored controlling-controlling.placed controlling-controlling.defaults controlling-controlling.controlled controlling-controlling.obeyedControl commands-obey.direct commands-obey.obeyed datagrams-datagram.obeyedBy datagrams-datagram.received datagrams-datagram.datagram safety-events.after safety-events.begins safety-events.runsFromAnother safety-listed.byValue safety-listed.byLock
+unfolding words-bytes.wordOf words-bytes.putWord wrapping-wrap.wrap rows-row.allowed rows-row.taken sheet-line.lines sheet-rows.parameters sheet-rows.rows sheet-sheet.rweRows sheet-sheet.rwRows sheet-sheet.rRows sheet-sheet.axis sheet-sheet.globals sheet-sheet.readOnly checksum-checksum.rightFrame wire-frame.putSeven wire-frame.frame store-store.written store-store.cellAt store-store.putCell store-store.recordAt store-store.putRecord serial-serial.takenOf stack-stack.pushed stack-stack.popped ranges-range.entriesInRange ranges-range.bitsInRange ranges-range.eachUpTo values-examples.defaultCells values-values.valuesInRange values-values.poweredAt values-values.poweredValues settings-settings.bankPlace settings-settings.settable settings-settings.kept settings-settings.isGlobal settings-settings.guarded settings-settings.locked calculating-calculate.calculated resetting-resetting.resetValues resetting-resetting.resetCells replying-reply.byteOf replying-reply.addresses replying-reply.replied flags-flags.raised jumping-jump.jumps jumping-jump.addressOf sampling-sample.settingsInRange sampling-sample.settled sampling-sample.sampleInRange waits-waits.ticked registers-range.coreInRange waiting-waiting.isOn waiting-waiting.happened waiting-waiting.tested waiting-waiting.waited flow-flow.jumped flow-flow.called flow-flow.returned flow-flow.halted flow-flow.waitedStep flow-flow.flowed fields-fields.writable fields-fields.storable fields-fields.sap fields-fields.has fields-fields.takes fields-fields.sgp effects-effects.setOutput motion-motion.withinLimit motion-motion.rightWithin motion-motion.leftWithin motion-motion.moveBy motion-motion.moveTo assigning-assigning.assign assigning-assigning.take assigning-assigning.keep numbers-numbers.intoAccumulator numbers-numbers.calc numbers-numbers.calcx numbers-numbers.clear judge-judge.judged judge-judge.isFlow judge-judge.isReading reading-reading.global reading-reading.digitalAt reading-reading.analogAt reading-reading.outputAt reading-reading.port reading-reading.read deciding-deciding.decidedBy deciding-deciding.worked stepping-step.carried stepping-step.obeyed stepping-step.step running-laws.walked running-run.run directing-direct.changed directing-direct.directed control-control.judged control-control.begun control-control.reset control-control.controlled control-control.shown control-control.answer board-range.registersInRange board-registers.unpowered board-registers.powered board-step.steps board-step.stepOnce events-events.poweredUp events-events.sampled events-events.ticked runs-run.run storing-storing.stored controlling-controlling.placed controlling-controlling.defaults controlling-controlling.controlled controlling-controlling.obeyedControl commands-obey.direct commands-obey.obeyed datagrams-datagram.obeyedBy datagrams-datagram.received datagrams-datagram.datagram safety-events.after safety-events.beginsProgram safety-events.runsFromAnother safety-listed.byValue safety-listed.byLock
 runs =
     record {
-      working-begins = refl;
-      working-quiet = working-quiet;
+      power-up-begins = refl;
+      run-begins = refl;
+      reset-begins = refl;
+      restart-begins = refl;
+      damaged-not = refl;
+      alone = MakesStep.alone refl;
+      quiet = quiet;
+      working-quiet = quiet-run (after once runFromZero);
       working-1 = refl;
       working-2 = refl;
       working-3 = refl;
       working-runs = refl;
       working-ends = refl;
+      refusing-runs = refl;
       refusing-met = refl;
-      untaken-bench = refl;
       untaken-runs = refl;
-      deepening-bench = refl;
+      untaken-met = refl;
       deepening-runs = refl;
+      deepening-met = refl;
     }

@@ -1,16 +1,20 @@
--- What their runs do on a board with default cells.
+-- What runs of these programs do on a board with default cells.
 use Prim.Native.Nat.{ℕ, zero, suc}
 use mathlib.Core.Path.{_≡_}
 use mathlib.Core.Bool.{true, false}
 use mathlib.Core.List.{List, [], _∷_}
+use lib.IntN.{pos}
 use lib.ListN.{replicate}
+use Rattle.words.specs.Word.{word}
 use Rattle.values.specs.Examples.{defaultCells}
 use Rattle.status.specs.Status.{numberOf}
+use Rattle.sampling.specs.declared.Sample.{Sample}
 use Rattle.stepping.specs.Step.{State, Pins, step}
-use Rattle.board.specs.Registers.{unpowered, powered}
+use Rattle.board.specs.Registers.{unpowered}
 use Rattle.board.specs.Step.{stateOf, pinsOf}
+use Rattle.board.specs.declared.Registers.{Registers}
 use Rattle.runs.specs.Run as runs
-use Rattle.safety.specs.Events.{World, Event, world, after, begins, afterAll, Quiet}
+use Rattle.safety.specs.Events.{World, Event, world, after, beginsProgram, afterAll, Quiet, MakesStep}
 use Rattle.safety.specs.Events as events
 use Rattle.witnesses.specs.Programs.{working, refusing, untaken, deepening}
 
@@ -18,9 +22,28 @@ use Rattle.witnesses.specs.Programs.{working, refusing, untaken, deepeni
 abbrev pub powerUp : Event
 powerUp = events.power-up defaultCells
 
--- 129, type 1, value 0, which runs the program from address 0
+abbrev pub datagram : List ℕ → Event
+datagram bytes = events.datagram bytes defaultCells (replicate 9 0)
+
+-- 129, type 1, value 0, which runs the program from address 0; 131; 255, value 1234; 130
 abbrev pub runFromZero : Event
-runFromZero = events.datagram (1 ∷ 129 ∷ 1 ∷ 0 ∷ 0 ∷ 0 ∷ 0 ∷ 0 ∷ 131 ∷ []) defaultCells (replicate 9 0)
+runFromZero = datagram (1 ∷ 129 ∷ 1 ∷ 0 ∷ 0 ∷ 0 ∷ 0 ∷ 0 ∷ 131 ∷ [])
+
+abbrev pub reset : Event
+reset = datagram (1 ∷ 131 ∷ 0 ∷ 0 ∷ 0 ∷ 0 ∷ 0 ∷ 0 ∷ 132 ∷ [])
+
+abbrev pub restart : Event
+restart = datagram (1 ∷ 255 ∷ 0 ∷ 0 ∷ 0 ∷ 0 ∷ 4 ∷ 210 ∷ 214 ∷ [])
+
+abbrev pub oneStep : Event
+oneStep = datagram (1 ∷ 130 ∷ 0 ∷ 0 ∷ 0 ∷ 0 ∷ 0 ∷ 0 ∷ 131 ∷ [])
+
+-- the same with a wrong checksum, and to another address
+abbrev pub damaged : Event
+damaged = datagram (1 ∷ 130 ∷ 0 ∷ 0 ∷ 0 ∷ 0 ∷ 0 ∷ 0 ∷ 130 ∷ [])
+
+abbrev pub notOurs : Event
+notOurs = datagram (2 ∷ 130 ∷ 0 ∷ 0 ∷ 0 ∷ 0 ∷ 0 ∷ 0 ∷ 132 ∷ [])
 
 abbrev pub run : Event
 run = events.run 1000 defaultCells
@@ -28,7 +51,38 @@ run = events.run 1000 defaultCells
 abbrev pub tick : Event
 tick = events.tick
 
--- steps and status of a run of 1,000 at the end of a row
+-- a sample with a field out of range, which is refused
+abbrev pub badSample : Event
+badSample =
+    events.sample (
+    record {
+      readings =
+          record {
+            «ramp_position» = pos 0;
+            «actual_position» = pos 0;
+            reached = pos 2;
+            right = pos 0;
+            left = pos 0;
+            home = pos 0;
+            «supply_voltage» = pos 240;
+            temperature = pos 20;
+          };
+      inputs =
+          record {
+            «digital_0» = word (pos 0);
+            «digital_1» = word (pos 0);
+            «analog_0» = pos 0;
+            «analog_1» = pos 0;
+            «analog_2» = pos 0;
+          };
+      signals = record { eal = word (pos 0); edv = word (pos 0); epo = word (pos 0) };
+    }
+    )
+
+abbrev pub onBoard : List ℕ → World
+onBoard program = after (world program unpowered) powerUp
+
+-- ---- steps and status of a run of 1,000
 pub record Ran : Type 0 where
   pub steps : ℕ
   pub status : ℕ
@@ -42,31 +96,43 @@ ran w = ranOf (runs.run (w .program) 1000 (w .registers) defaultCells)
 abbrev pub answered : ℕ → ℕ → Ran
 answered n s = record { steps = n; status = s }
 
-abbrev pub onBoard : List ℕ → World
-onBoard program = after (world program unpowered) powerUp
+-- the statuses of so many steps, the first first
+abbrev pub metFrom : List ℕ → Pins → ℕ → State → List ℕ
+metFrom program p zero x = []
+metFrom program p (suc n) x = numberOf (step program p x .status) ∷ metFrom program p n (step program p x .state)
 
--- the statuses of so many steps
-abbrev pub met : List ℕ → Pins → ℕ → State → List ℕ
-met program p zero x = []
-met program p (suc n) x = numberOf (step program p x .status) ∷ met program p n (step program p x .state)
+abbrev pub met : List ℕ → ℕ → Registers → List ℕ
+met program n r = metFrom program (pinsOf r) n (stateOf r defaultCells)
+
+-- a program that was run from address 0
+abbrev pub begun : List ℕ → World
+begun program = after (onBoard program) runFromZero
 
 pub record Runs : Type 0 where
-  -- ---- `working`: begun by power-up; run from 0, held by a wait for two ticks in the inner call, by one for one tick in the outer, and
-  -- ended by STOP
-  pub working-begins : begins (world working unpowered) powerUp ≡ true
-  pub working-quiet : Quiet (onBoard working) (runFromZero ∷ run ∷ tick ∷ tick ∷ run ∷ tick ∷ run ∷ [])
-  pub working-1 : ran (afterAll (onBoard working) (runFromZero ∷ [])) ≡ answered 4 100
-  pub working-2 : ran (afterAll (onBoard working) (runFromZero ∷ run ∷ tick ∷ tick ∷ [])) ≡ answered 4 100
-  pub working-3 : ran (afterAll (onBoard working) (runFromZero ∷ run ∷ tick ∷ tick ∷ run ∷ tick ∷ [])) ≡ answered 4 100
-  pub working-runs : afterAll (onBoard working) (runFromZero ∷ run ∷ tick ∷ tick ∷ run ∷ []) .registers .core .running ≡ true
-  pub working-ends : afterAll (onBoard working) (runFromZero ∷ run ∷ tick ∷ tick ∷ run ∷ tick ∷ run ∷ []) .registers .core .running ≡ false
-  -- ---- `refusing`: each refusal that is known only while running, in the order of its records
-  pub refusing-met :
-      met refusing (pinsOf (powered defaultCells)) 21 (stateOf (powered defaultCells) defaultCells)
+  -- ---- each beginning
+  pub power-up-begins : beginsProgram (world working unpowered) powerUp ≡ true
+  pub run-begins : beginsProgram (onBoard working) runFromZero ≡ true
+  pub reset-begins : beginsProgram (onBoard working) reset ≡ true
+  pub restart-begins : beginsProgram (onBoard working) restart ≡ true
+  -- and what begins nothing
+  pub damaged-not : beginsProgram (onBoard working) damaged ≡ false
+  -- ---- a step of 130 is one that the promise speaks of
+  pub alone : MakesStep (onBoard working) oneStep (stateOf (onBoard working .registers) defaultCells)
+  -- ---- quiet events of every kind
+  pub quiet : Quiet (onBoard working) (damaged ∷ notOurs ∷ oneStep ∷ runFromZero ∷ run ∷ badSample ∷ tick ∷ powerUp ∷ run ∷ [])
+  -- ---- `working` is held by a wait for two ticks in the inner call, by one for one tick in the outer, and ended by STOP
+  pub working-quiet : Quiet (begun working) (run ∷ tick ∷ tick ∷ run ∷ tick ∷ run ∷ [])
+  pub working-1 : ran (begun working) ≡ answered 4 100
+  pub working-2 : ran (afterAll (begun working) (run ∷ tick ∷ tick ∷ [])) ≡ answered 4 100
+  pub working-3 : ran (afterAll (begun working) (run ∷ tick ∷ tick ∷ run ∷ tick ∷ [])) ≡ answered 4 100
+  pub working-runs : afterAll (begun working) (run ∷ tick ∷ tick ∷ run ∷ []) .registers .core .running ≡ true
+  pub working-ends : afterAll (begun working) (run ∷ tick ∷ tick ∷ run ∷ tick ∷ run ∷ []) .registers .core .running ≡ false
+  -- ---- `refusing` meets each refusal that is known only while running, in the order of its records
+  pub refusing-runs : ran (begun refusing) ≡ answered 21 100
+  pub refusing-met : met refusing 21 (begun refusing .registers)
       ≡ 4 ∷ 4 ∷ 100 ∷ 4 ∷ 4 ∷ 4 ∷ 4 ∷ 4 ∷ 100 ∷ 4 ∷ 100 ∷ 5 ∷ 5 ∷ 5 ∷ 5 ∷ 5 ∷ 100 ∷ 5 ∷ 5 ∷ 5 ∷ 100 ∷ []
   -- ---- on the bench both programs that the check refuses run to their STOP, and no step of theirs is refused
-  pub untaken-bench : met untaken (pinsOf (powered defaultCells)) 2 (stateOf (powered defaultCells) defaultCells) ≡ 100 ∷ 100 ∷ []
-  pub untaken-runs : ran (afterAll (onBoard untaken) (runFromZero ∷ [])) ≡ answered 2 100
-  pub deepening-bench :
-      met deepening (pinsOf (powered defaultCells)) 4 (stateOf (powered defaultCells) defaultCells) ≡ 100 ∷ 100 ∷ 100 ∷ 100 ∷ []
-  pub deepening-runs : ran (afterAll (onBoard deepening) (runFromZero ∷ [])) ≡ answered 4 100
+  pub untaken-runs : ran (begun untaken) ≡ answered 2 100
+  pub untaken-met : met untaken 2 (begun untaken .registers) ≡ 100 ∷ 100 ∷ []
+  pub deepening-runs : ran (begun deepening) ≡ answered 4 100
+  pub deepening-met : met deepening 4 (begun deepening .registers) ≡ 100 ∷ 100 ∷ 100 ∷ 100 ∷ []

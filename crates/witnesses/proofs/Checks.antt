@@ -3,11 +3,12 @@ use Prim.Native.Nat.{ℕ}
 use native.Mathlib.Omega.{arith}
 use mathlib.Core.Path.{_≡_, refl}
 use mathlib.Core.Bool.{true}
+use mathlib.Core.List.{List, [], _∷_}
 use lib.ListN.{length, replicate, length-replicate}
-use mathlib.Core.List.{[], _∷_}
 use Rattle.status.specs.declared.Status.the-variants.{Unknown, Kind, Value, Unavailable}
 use Rattle.points.specs.Points.{first, point}
 use Rattle.points.specs.Reach.{Reach, Safe, Lowest}
+use Rattle.points.specs.declared.Point.{Point}
 use Rattle.points.specs.declared.Way.the-variants.{Bad}
 use Rattle.leading.specs.Leading.{wayAt}
 use Rattle.checking.proofs.Certificate as certificate
@@ -27,104 +28,117 @@ use Rattle.leading.specs.Leading as leading-leading
 use Rattle.witnesses.specs.Checks.{Checks}
 use Rattle.witnesses.specs.Programs.{working, refusing, untaken, deepening, twice, notOnSheet, falling}
 
-working-certified : certifies (wayAt working) never (point 0 0 ∷ point 1 0 ∷ point 2 0 ∷ point 3 0 ∷ point 4 1 ∷ point 5 1 ∷ point 6 1 ∷ point 7 1 ∷ point 8 1 ∷ point 9 2 ∷ point 10 2 ∷ []) ≡ true
+-- ---- the points that each program reaches, and a way to the bad one
+abbrev working-points : List Point
+working-points = point 0 0 ∷ point 1 0 ∷ point 2 0 ∷ point 3 0 ∷ point 4 1 ∷ point 5 1 ∷ point 6 1 ∷ point 7 1 ∷ point 8 1 ∷ point 9 2 ∷ point 10 2 ∷ []
+
+abbrev refusing-points : List Point
+refusing-points = point 0 0 ∷ point 1 0 ∷ point 2 0 ∷ point 3 0 ∷ point 4 0 ∷ point 5 0 ∷ point 6 0 ∷ point 7 0 ∷ point 8 0 ∷ point 9 0 ∷ point 10 0 ∷ point 11 0 ∷ point 12 0 ∷ point 13 0 ∷ point 14 0 ∷ point 15 0 ∷ point 16 0 ∷ point 17 0 ∷ point 18 0 ∷ point 19 0 ∷ point 20 0 ∷ []
+
+abbrev untaken-points : List Point
+untaken-points = point 0 0 ∷ point 1 0 ∷ point 2 0 ∷ []
+
+abbrev untaken-way : List Point
+untaken-way = point 2 0 ∷ []
+
+abbrev deepening-points : List Point
+deepening-points = point 0 0 ∷ point 1 0 ∷ point 2 1 ∷ point 3 1 ∷ point 4 1 ∷ point 2 2 ∷ point 3 2 ∷ point 4 2 ∷ point 2 3 ∷ point 3 3 ∷ point 4 3 ∷ point 2 4 ∷ point 3 4 ∷ point 4 4 ∷ point 2 5 ∷ point 3 5 ∷ point 4 5 ∷ point 2 6 ∷ point 3 6 ∷ point 4 6 ∷ point 2 7 ∷ point 3 7 ∷ point 4 7 ∷ point 2 8 ∷ point 3 8 ∷ point 4 8 ∷ []
+
+abbrev deepening-way : List Point
+deepening-way = point 2 1 ∷ point 3 1 ∷ point 2 2 ∷ point 3 2 ∷ point 2 3 ∷ point 3 3 ∷ point 2 4 ∷ point 3 4 ∷ point 2 5 ∷ point 3 5 ∷ point 2 6 ∷ point 3 6 ∷ point 2 7 ∷ point 3 7 ∷ point 2 8 ∷ point 3 8 ∷ []
+
+abbrev twice-points : List Point
+twice-points = point 0 0 ∷ point 1 0 ∷ point 3 0 ∷ point 4 0 ∷ []
+
+abbrev twice-way : List Point
+twice-way = point 1 0 ∷ point 3 0 ∷ []
+
+abbrev sheet-points : List Point
+sheet-points = point 0 0 ∷ []
+
+abbrev sheet-way : List Point
+sheet-way = []
+
+abbrev falling-points : List Point
+falling-points = point 0 0 ∷ point 1023 0 ∷ point 1024 0 ∷ []
+
+abbrev falling-way : List Point
+falling-way = point 1023 0 ∷ point 1024 0 ∷ []
+
+-- ---- what is computed
+record Computed : Type 0 where
+  working-certified : certifies (wayAt working) never working-points ≡ true
+  refusing-certified : certifies (wayAt refusing) never refusing-points ≡ true
+  untaken-certified : certifies (wayAt untaken) (notAfter (point 2 0)) untaken-points ≡ true
+  untaken-goes : goes (wayAt untaken) first untaken-way ≡ true
+  untaken-bad : wayAt untaken (point 2 0) ≡ Bad Unknown
+  deepening-certified : certifies (wayAt deepening) (notAfter (point 3 8)) deepening-points ≡ true
+  deepening-goes : goes (wayAt deepening) first deepening-way ≡ true
+  deepening-bad : wayAt deepening (point 3 8) ≡ Bad Unavailable
+  twice-certified : certifies (wayAt twice) (notAfter (point 3 0)) twice-points ≡ true
+  twice-goes : goes (wayAt twice) first twice-way ≡ true
+  twice-bad : wayAt twice (point 3 0) ≡ Bad Unavailable
+  sheet-certified : certifies (wayAt notOnSheet) (notAfter (point 0 0)) sheet-points ≡ true
+  sheet-goes : goes (wayAt notOnSheet) first sheet-way ≡ true
+  sheet-bad : wayAt notOnSheet (point 0 0) ≡ Bad Kind
+  falling-certified : certifies (wayAt falling) (notAfter (point 1024 0)) falling-points ≡ true
+  falling-goes : goes (wayAt falling) first falling-way ≡ true
+  falling-bad : wayAt falling (point 1024 0) ≡ Bad Value
+
+computed : Computed
 unfolding words-bytes.wordOf words-bytes.putWord rows-row.allowed rows-row.taken sheet-line.lines sheet-rows.parameters sheet-rows.rows sheet-sheet.rweRows sheet-sheet.rwRows sheet-sheet.rRows sheet-sheet.axis sheet-sheet.globals sheet-sheet.readOnly store-store.written store-store.cellAt store-store.putCell store-store.recordAt store-store.putRecord settings-settings.bankPlace settings-settings.settable settings-settings.kept settings-settings.isGlobal settings-settings.guarded settings-settings.locked jumping-jump.jumps jumping-jump.addressOf waiting-waiting.isOn waiting-waiting.happened waiting-waiting.tested waiting-waiting.waited fields-fields.writable fields-fields.storable fields-fields.sap fields-fields.has fields-fields.takes fields-fields.sgp judge-judge.judged judge-judge.isFlow judge-judge.isReading leading-leading.byDepth leading-leading.recordStatus leading-leading.statusAt leading-leading.onward leading-leading.wayAt certificate.has certificate.closed certificate.certifies certificate.goes
-working-certified = refl
+computed =
+    record {
+      working-certified = refl;
+      refusing-certified = refl;
+      untaken-certified = refl;
+      untaken-goes = refl;
+      untaken-bad = refl;
+      deepening-certified = refl;
+      deepening-goes = refl;
+      deepening-bad = refl;
+      twice-certified = refl;
+      twice-goes = refl;
+      twice-bad = refl;
+      sheet-certified = refl;
+      sheet-goes = refl;
+      sheet-bad = refl;
+      falling-certified = refl;
+      falling-goes = refl;
+      falling-bad = refl;
+    }
 
-working-safe : Safe (wayAt working)
-working-safe = safe-by (wayAt working) (point 0 0 ∷ point 1 0 ∷ point 2 0 ∷ point 3 0 ∷ point 4 1 ∷ point 5 1 ∷ point 6 1 ∷ point 7 1 ∷ point 8 1 ∷ point 9 2 ∷ point 10 2 ∷ []) working-certified
+-- ---- what that says
+pub working-safe : Safe (wayAt working)
+working-safe = safe-by (wayAt working) working-points (computed .working-certified)
 
-refusing-certified : certifies (wayAt refusing) never (point 0 0 ∷ point 1 0 ∷ point 2 0 ∷ point 3 0 ∷ point 4 0 ∷ point 5 0 ∷ point 6 0 ∷ point 7 0 ∷ point 8 0 ∷ point 9 0 ∷ point 10 0 ∷ point 11 0 ∷ point 12 0 ∷ point 13 0 ∷ point 14 0 ∷ point 15 0 ∷ point 16 0 ∷ point 17 0 ∷ point 18 0 ∷ point 19 0 ∷ point 20 0 ∷ []) ≡ true
-unfolding words-bytes.wordOf words-bytes.putWord rows-row.allowed rows-row.taken sheet-line.lines sheet-rows.parameters sheet-rows.rows sheet-sheet.rweRows sheet-sheet.rwRows sheet-sheet.rRows sheet-sheet.axis sheet-sheet.globals sheet-sheet.readOnly store-store.written store-store.cellAt store-store.putCell store-store.recordAt store-store.putRecord settings-settings.bankPlace settings-settings.settable settings-settings.kept settings-settings.isGlobal settings-settings.guarded settings-settings.locked jumping-jump.jumps jumping-jump.addressOf waiting-waiting.isOn waiting-waiting.happened waiting-waiting.tested waiting-waiting.waited fields-fields.writable fields-fields.storable fields-fields.sap fields-fields.has fields-fields.takes fields-fields.sgp judge-judge.judged judge-judge.isFlow judge-judge.isReading leading-leading.byDepth leading-leading.recordStatus leading-leading.statusAt leading-leading.onward leading-leading.wayAt certificate.has certificate.closed certificate.certifies certificate.goes
-refusing-certified = refl
+pub refusing-safe : Safe (wayAt refusing)
+refusing-safe = safe-by (wayAt refusing) refusing-points (computed .refusing-certified)
 
-refusing-safe : Safe (wayAt refusing)
-refusing-safe = safe-by (wayAt refusing) (point 0 0 ∷ point 1 0 ∷ point 2 0 ∷ point 3 0 ∷ point 4 0 ∷ point 5 0 ∷ point 6 0 ∷ point 7 0 ∷ point 8 0 ∷ point 9 0 ∷ point 10 0 ∷ point 11 0 ∷ point 12 0 ∷ point 13 0 ∷ point 14 0 ∷ point 15 0 ∷ point 16 0 ∷ point 17 0 ∷ point 18 0 ∷ point 19 0 ∷ point 20 0 ∷ []) refusing-certified
-
-untaken-certified : certifies (wayAt untaken) (notAfter (point 2 0)) (point 0 0 ∷ point 1 0 ∷ point 2 0 ∷ []) ≡ true
-unfolding words-bytes.wordOf words-bytes.putWord rows-row.allowed rows-row.taken sheet-line.lines sheet-rows.parameters sheet-rows.rows sheet-sheet.rweRows sheet-sheet.rwRows sheet-sheet.rRows sheet-sheet.axis sheet-sheet.globals sheet-sheet.readOnly store-store.written store-store.cellAt store-store.putCell store-store.recordAt store-store.putRecord settings-settings.bankPlace settings-settings.settable settings-settings.kept settings-settings.isGlobal settings-settings.guarded settings-settings.locked jumping-jump.jumps jumping-jump.addressOf waiting-waiting.isOn waiting-waiting.happened waiting-waiting.tested waiting-waiting.waited fields-fields.writable fields-fields.storable fields-fields.sap fields-fields.has fields-fields.takes fields-fields.sgp judge-judge.judged judge-judge.isFlow judge-judge.isReading leading-leading.byDepth leading-leading.recordStatus leading-leading.statusAt leading-leading.onward leading-leading.wayAt certificate.has certificate.closed certificate.certifies certificate.goes
-untaken-certified = refl
-
-untaken-goes : goes (wayAt untaken) first (point 2 0 ∷ []) ≡ true
-unfolding words-bytes.wordOf words-bytes.putWord rows-row.allowed rows-row.taken sheet-line.lines sheet-rows.parameters sheet-rows.rows sheet-sheet.rweRows sheet-sheet.rwRows sheet-sheet.rRows sheet-sheet.axis sheet-sheet.globals sheet-sheet.readOnly store-store.written store-store.cellAt store-store.putCell store-store.recordAt store-store.putRecord settings-settings.bankPlace settings-settings.settable settings-settings.kept settings-settings.isGlobal settings-settings.guarded settings-settings.locked jumping-jump.jumps jumping-jump.addressOf waiting-waiting.isOn waiting-waiting.happened waiting-waiting.tested waiting-waiting.waited fields-fields.writable fields-fields.storable fields-fields.sap fields-fields.has fields-fields.takes fields-fields.sgp judge-judge.judged judge-judge.isFlow judge-judge.isReading leading-leading.byDepth leading-leading.recordStatus leading-leading.statusAt leading-leading.onward leading-leading.wayAt certificate.has certificate.closed certificate.certifies certificate.goes
-untaken-goes = refl
-
-untaken-bad : wayAt untaken (point 2 0) ≡ Bad Unknown
-unfolding words-bytes.wordOf words-bytes.putWord rows-row.allowed rows-row.taken sheet-line.lines sheet-rows.parameters sheet-rows.rows sheet-sheet.rweRows sheet-sheet.rwRows sheet-sheet.rRows sheet-sheet.axis sheet-sheet.globals sheet-sheet.readOnly store-store.written store-store.cellAt store-store.putCell store-store.recordAt store-store.putRecord settings-settings.bankPlace settings-settings.settable settings-settings.kept settings-settings.isGlobal settings-settings.guarded settings-settings.locked jumping-jump.jumps jumping-jump.addressOf waiting-waiting.isOn waiting-waiting.happened waiting-waiting.tested waiting-waiting.waited fields-fields.writable fields-fields.storable fields-fields.sap fields-fields.has fields-fields.takes fields-fields.sgp judge-judge.judged judge-judge.isFlow judge-judge.isReading leading-leading.byDepth leading-leading.recordStatus leading-leading.statusAt leading-leading.onward leading-leading.wayAt certificate.has certificate.closed certificate.certifies certificate.goes
-untaken-bad = refl
-
-untaken-lowest : Lowest (wayAt untaken) (point 2 0) Unknown
+pub untaken-lowest : Lowest (wayAt untaken) (point 2 0) Unknown
 untaken-lowest =
-    lowest-by (wayAt untaken) (point 2 0) Unknown (point 0 0 ∷ point 1 0 ∷ point 2 0 ∷ []) untaken-certified
-    (reached-by (wayAt untaken) first (point 2 0 ∷ []) Reach.begin untaken-goes) untaken-bad
+    lowest-by (wayAt untaken) (point 2 0) Unknown untaken-points (computed .untaken-certified)
+    (reached-by (wayAt untaken) first untaken-way Reach.begin (computed .untaken-goes)) (computed .untaken-bad)
 
-deepening-certified : certifies (wayAt deepening) (notAfter (point 3 8)) (point 0 0 ∷ point 1 0 ∷ point 2 1 ∷ point 3 1 ∷ point 4 1 ∷ point 2 2 ∷ point 3 2 ∷ point 4 2 ∷ point 2 3 ∷ point 3 3 ∷ point 4 3 ∷ point 2 4 ∷ point 3 4 ∷ point 4 4 ∷ point 2 5 ∷ point 3 5 ∷ point 4 5 ∷ point 2 6 ∷ point 3 6 ∷ point 4 6 ∷ point 2 7 ∷ point 3 7 ∷ point 4 7 ∷ point 2 8 ∷ point 3 8 ∷ point 4 8 ∷ []) ≡ true
-unfolding words-bytes.wordOf words-bytes.putWord rows-row.allowed rows-row.taken sheet-line.lines sheet-rows.parameters sheet-rows.rows sheet-sheet.rweRows sheet-sheet.rwRows sheet-sheet.rRows sheet-sheet.axis sheet-sheet.globals sheet-sheet.readOnly store-store.written store-store.cellAt store-store.putCell store-store.recordAt store-store.putRecord settings-settings.bankPlace settings-settings.settable settings-settings.kept settings-settings.isGlobal settings-settings.guarded settings-settings.locked jumping-jump.jumps jumping-jump.addressOf waiting-waiting.isOn waiting-waiting.happened waiting-waiting.tested waiting-waiting.waited fields-fields.writable fields-fields.storable fields-fields.sap fields-fields.has fields-fields.takes fields-fields.sgp judge-judge.judged judge-judge.isFlow judge-judge.isReading leading-leading.byDepth leading-leading.recordStatus leading-leading.statusAt leading-leading.onward leading-leading.wayAt certificate.has certificate.closed certificate.certifies certificate.goes
-deepening-certified = refl
-
-deepening-goes : goes (wayAt deepening) first (point 2 1 ∷ point 3 1 ∷ point 2 2 ∷ point 3 2 ∷ point 2 3 ∷ point 3 3 ∷ point 2 4 ∷ point 3 4 ∷ point 2 5 ∷ point 3 5 ∷ point 2 6 ∷ point 3 6 ∷ point 2 7 ∷ point 3 7 ∷ point 2 8 ∷ point 3 8 ∷ []) ≡ true
-unfolding words-bytes.wordOf words-bytes.putWord rows-row.allowed rows-row.taken sheet-line.lines sheet-rows.parameters sheet-rows.rows sheet-sheet.rweRows sheet-sheet.rwRows sheet-sheet.rRows sheet-sheet.axis sheet-sheet.globals sheet-sheet.readOnly store-store.written store-store.cellAt store-store.putCell store-store.recordAt store-store.putRecord settings-settings.bankPlace settings-settings.settable settings-settings.kept settings-settings.isGlobal settings-settings.guarded settings-settings.locked jumping-jump.jumps jumping-jump.addressOf waiting-waiting.isOn waiting-waiting.happened waiting-waiting.tested waiting-waiting.waited fields-fields.writable fields-fields.storable fields-fields.sap fields-fields.has fields-fields.takes fields-fields.sgp judge-judge.judged judge-judge.isFlow judge-judge.isReading leading-leading.byDepth leading-leading.recordStatus leading-leading.statusAt leading-leading.onward leading-leading.wayAt certificate.has certificate.closed certificate.certifies certificate.goes
-deepening-goes = refl
-
-deepening-bad : wayAt deepening (point 3 8) ≡ Bad Unavailable
-unfolding words-bytes.wordOf words-bytes.putWord rows-row.allowed rows-row.taken sheet-line.lines sheet-rows.parameters sheet-rows.rows sheet-sheet.rweRows sheet-sheet.rwRows sheet-sheet.rRows sheet-sheet.axis sheet-sheet.globals sheet-sheet.readOnly store-store.written store-store.cellAt store-store.putCell store-store.recordAt store-store.putRecord settings-settings.bankPlace settings-settings.settable settings-settings.kept settings-settings.isGlobal settings-settings.guarded settings-settings.locked jumping-jump.jumps jumping-jump.addressOf waiting-waiting.isOn waiting-waiting.happened waiting-waiting.tested waiting-waiting.waited fields-fields.writable fields-fields.storable fields-fields.sap fields-fields.has fields-fields.takes fields-fields.sgp judge-judge.judged judge-judge.isFlow judge-judge.isReading leading-leading.byDepth leading-leading.recordStatus leading-leading.statusAt leading-leading.onward leading-leading.wayAt certificate.has certificate.closed certificate.certifies certificate.goes
-deepening-bad = refl
-
-deepening-lowest : Lowest (wayAt deepening) (point 3 8) Unavailable
+pub deepening-lowest : Lowest (wayAt deepening) (point 3 8) Unavailable
 deepening-lowest =
-    lowest-by (wayAt deepening) (point 3 8) Unavailable (point 0 0 ∷ point 1 0 ∷ point 2 1 ∷ point 3 1 ∷ point 4 1 ∷ point 2 2 ∷ point 3 2 ∷ point 4 2 ∷ point 2 3 ∷ point 3 3 ∷ point 4 3 ∷ point 2 4 ∷ point 3 4 ∷ point 4 4 ∷ point 2 5 ∷ point 3 5 ∷ point 4 5 ∷ point 2 6 ∷ point 3 6 ∷ point 4 6 ∷ point 2 7 ∷ point 3 7 ∷ point 4 7 ∷ point 2 8 ∷ point 3 8 ∷ point 4 8 ∷ []) deepening-certified
-    (reached-by (wayAt deepening) first (point 2 1 ∷ point 3 1 ∷ point 2 2 ∷ point 3 2 ∷ point 2 3 ∷ point 3 3 ∷ point 2 4 ∷ point 3 4 ∷ point 2 5 ∷ point 3 5 ∷ point 2 6 ∷ point 3 6 ∷ point 2 7 ∷ point 3 7 ∷ point 2 8 ∷ point 3 8 ∷ []) Reach.begin deepening-goes) deepening-bad
+    lowest-by (wayAt deepening) (point 3 8) Unavailable deepening-points (computed .deepening-certified)
+    (reached-by (wayAt deepening) first deepening-way Reach.begin (computed .deepening-goes)) (computed .deepening-bad)
 
-twice-certified : certifies (wayAt twice) (notAfter (point 3 0)) (point 0 0 ∷ point 1 0 ∷ point 3 0 ∷ point 4 0 ∷ []) ≡ true
-unfolding words-bytes.wordOf words-bytes.putWord rows-row.allowed rows-row.taken sheet-line.lines sheet-rows.parameters sheet-rows.rows sheet-sheet.rweRows sheet-sheet.rwRows sheet-sheet.rRows sheet-sheet.axis sheet-sheet.globals sheet-sheet.readOnly store-store.written store-store.cellAt store-store.putCell store-store.recordAt store-store.putRecord settings-settings.bankPlace settings-settings.settable settings-settings.kept settings-settings.isGlobal settings-settings.guarded settings-settings.locked jumping-jump.jumps jumping-jump.addressOf waiting-waiting.isOn waiting-waiting.happened waiting-waiting.tested waiting-waiting.waited fields-fields.writable fields-fields.storable fields-fields.sap fields-fields.has fields-fields.takes fields-fields.sgp judge-judge.judged judge-judge.isFlow judge-judge.isReading leading-leading.byDepth leading-leading.recordStatus leading-leading.statusAt leading-leading.onward leading-leading.wayAt certificate.has certificate.closed certificate.certifies certificate.goes
-twice-certified = refl
-
-twice-goes : goes (wayAt twice) first (point 1 0 ∷ point 3 0 ∷ []) ≡ true
-unfolding words-bytes.wordOf words-bytes.putWord rows-row.allowed rows-row.taken sheet-line.lines sheet-rows.parameters sheet-rows.rows sheet-sheet.rweRows sheet-sheet.rwRows sheet-sheet.rRows sheet-sheet.axis sheet-sheet.globals sheet-sheet.readOnly store-store.written store-store.cellAt store-store.putCell store-store.recordAt store-store.putRecord settings-settings.bankPlace settings-settings.settable settings-settings.kept settings-settings.isGlobal settings-settings.guarded settings-settings.locked jumping-jump.jumps jumping-jump.addressOf waiting-waiting.isOn waiting-waiting.happened waiting-waiting.tested waiting-waiting.waited fields-fields.writable fields-fields.storable fields-fields.sap fields-fields.has fields-fields.takes fields-fields.sgp judge-judge.judged judge-judge.isFlow judge-judge.isReading leading-leading.byDepth leading-leading.recordStatus leading-leading.statusAt leading-leading.onward leading-leading.wayAt certificate.has certificate.closed certificate.certifies certificate.goes
-twice-goes = refl
-
-twice-bad : wayAt twice (point 3 0) ≡ Bad Unavailable
-unfolding words-bytes.wordOf words-bytes.putWord rows-row.allowed rows-row.taken sheet-line.lines sheet-rows.parameters sheet-rows.rows sheet-sheet.rweRows sheet-sheet.rwRows sheet-sheet.rRows sheet-sheet.axis sheet-sheet.globals sheet-sheet.readOnly store-store.written store-store.cellAt store-store.putCell store-store.recordAt store-store.putRecord settings-settings.bankPlace settings-settings.settable settings-settings.kept settings-settings.isGlobal settings-settings.guarded settings-settings.locked jumping-jump.jumps jumping-jump.addressOf waiting-waiting.isOn waiting-waiting.happened waiting-waiting.tested waiting-waiting.waited fields-fields.writable fields-fields.storable fields-fields.sap fields-fields.has fields-fields.takes fields-fields.sgp judge-judge.judged judge-judge.isFlow judge-judge.isReading leading-leading.byDepth leading-leading.recordStatus leading-leading.statusAt leading-leading.onward leading-leading.wayAt certificate.has certificate.closed certificate.certifies certificate.goes
-twice-bad = refl
-
-twice-lowest : Lowest (wayAt twice) (point 3 0) Unavailable
+pub twice-lowest : Lowest (wayAt twice) (point 3 0) Unavailable
 twice-lowest =
-    lowest-by (wayAt twice) (point 3 0) Unavailable (point 0 0 ∷ point 1 0 ∷ point 3 0 ∷ point 4 0 ∷ []) twice-certified
-    (reached-by (wayAt twice) first (point 1 0 ∷ point 3 0 ∷ []) Reach.begin twice-goes) twice-bad
+    lowest-by (wayAt twice) (point 3 0) Unavailable twice-points (computed .twice-certified)
+    (reached-by (wayAt twice) first twice-way Reach.begin (computed .twice-goes)) (computed .twice-bad)
 
-sheet-certified : certifies (wayAt notOnSheet) (notAfter (point 0 0)) (point 0 0 ∷ []) ≡ true
-unfolding words-bytes.wordOf words-bytes.putWord rows-row.allowed rows-row.taken sheet-line.lines sheet-rows.parameters sheet-rows.rows sheet-sheet.rweRows sheet-sheet.rwRows sheet-sheet.rRows sheet-sheet.axis sheet-sheet.globals sheet-sheet.readOnly store-store.written store-store.cellAt store-store.putCell store-store.recordAt store-store.putRecord settings-settings.bankPlace settings-settings.settable settings-settings.kept settings-settings.isGlobal settings-settings.guarded settings-settings.locked jumping-jump.jumps jumping-jump.addressOf waiting-waiting.isOn waiting-waiting.happened waiting-waiting.tested waiting-waiting.waited fields-fields.writable fields-fields.storable fields-fields.sap fields-fields.has fields-fields.takes fields-fields.sgp judge-judge.judged judge-judge.isFlow judge-judge.isReading leading-leading.byDepth leading-leading.recordStatus leading-leading.statusAt leading-leading.onward leading-leading.wayAt certificate.has certificate.closed certificate.certifies certificate.goes
-sheet-certified = refl
-
-sheet-goes : goes (wayAt notOnSheet) first ([]) ≡ true
-unfolding words-bytes.wordOf words-bytes.putWord rows-row.allowed rows-row.taken sheet-line.lines sheet-rows.parameters sheet-rows.rows sheet-sheet.rweRows sheet-sheet.rwRows sheet-sheet.rRows sheet-sheet.axis sheet-sheet.globals sheet-sheet.readOnly store-store.written store-store.cellAt store-store.putCell store-store.recordAt store-store.putRecord settings-settings.bankPlace settings-settings.settable settings-settings.kept settings-settings.isGlobal settings-settings.guarded settings-settings.locked jumping-jump.jumps jumping-jump.addressOf waiting-waiting.isOn waiting-waiting.happened waiting-waiting.tested waiting-waiting.waited fields-fields.writable fields-fields.storable fields-fields.sap fields-fields.has fields-fields.takes fields-fields.sgp judge-judge.judged judge-judge.isFlow judge-judge.isReading leading-leading.byDepth leading-leading.recordStatus leading-leading.statusAt leading-leading.onward leading-leading.wayAt certificate.has certificate.closed certificate.certifies certificate.goes
-sheet-goes = refl
-
-sheet-bad : wayAt notOnSheet (point 0 0) ≡ Bad Kind
-unfolding words-bytes.wordOf words-bytes.putWord rows-row.allowed rows-row.taken sheet-line.lines sheet-rows.parameters sheet-rows.rows sheet-sheet.rweRows sheet-sheet.rwRows sheet-sheet.rRows sheet-sheet.axis sheet-sheet.globals sheet-sheet.readOnly store-store.written store-store.cellAt store-store.putCell store-store.recordAt store-store.putRecord settings-settings.bankPlace settings-settings.settable settings-settings.kept settings-settings.isGlobal settings-settings.guarded settings-settings.locked jumping-jump.jumps jumping-jump.addressOf waiting-waiting.isOn waiting-waiting.happened waiting-waiting.tested waiting-waiting.waited fields-fields.writable fields-fields.storable fields-fields.sap fields-fields.has fields-fields.takes fields-fields.sgp judge-judge.judged judge-judge.isFlow judge-judge.isReading leading-leading.byDepth leading-leading.recordStatus leading-leading.statusAt leading-leading.onward leading-leading.wayAt certificate.has certificate.closed certificate.certifies certificate.goes
-sheet-bad = refl
-
-sheet-lowest : Lowest (wayAt notOnSheet) (point 0 0) Kind
+pub sheet-lowest : Lowest (wayAt notOnSheet) (point 0 0) Kind
 sheet-lowest =
-    lowest-by (wayAt notOnSheet) (point 0 0) Kind (point 0 0 ∷ []) sheet-certified
-    (reached-by (wayAt notOnSheet) first ([]) Reach.begin sheet-goes) sheet-bad
+    lowest-by (wayAt notOnSheet) (point 0 0) Kind sheet-points (computed .sheet-certified)
+    (reached-by (wayAt notOnSheet) first sheet-way Reach.begin (computed .sheet-goes)) (computed .sheet-bad)
 
-falling-certified : certifies (wayAt falling) (notAfter (point 1024 0)) (point 0 0 ∷ point 1023 0 ∷ point 1024 0 ∷ []) ≡ true
-unfolding words-bytes.wordOf words-bytes.putWord rows-row.allowed rows-row.taken sheet-line.lines sheet-rows.parameters sheet-rows.rows sheet-sheet.rweRows sheet-sheet.rwRows sheet-sheet.rRows sheet-sheet.axis sheet-sheet.globals sheet-sheet.readOnly store-store.written store-store.cellAt store-store.putCell store-store.recordAt store-store.putRecord settings-settings.bankPlace settings-settings.settable settings-settings.kept settings-settings.isGlobal settings-settings.guarded settings-settings.locked jumping-jump.jumps jumping-jump.addressOf waiting-waiting.isOn waiting-waiting.happened waiting-waiting.tested waiting-waiting.waited fields-fields.writable fields-fields.storable fields-fields.sap fields-fields.has fields-fields.takes fields-fields.sgp judge-judge.judged judge-judge.isFlow judge-judge.isReading leading-leading.byDepth leading-leading.recordStatus leading-leading.statusAt leading-leading.onward leading-leading.wayAt certificate.has certificate.closed certificate.certifies certificate.goes
-falling-certified = refl
-
-falling-goes : goes (wayAt falling) first (point 1023 0 ∷ point 1024 0 ∷ []) ≡ true
-unfolding words-bytes.wordOf words-bytes.putWord rows-row.allowed rows-row.taken sheet-line.lines sheet-rows.parameters sheet-rows.rows sheet-sheet.rweRows sheet-sheet.rwRows sheet-sheet.rRows sheet-sheet.axis sheet-sheet.globals sheet-sheet.readOnly store-store.written store-store.cellAt store-store.putCell store-store.recordAt store-store.putRecord settings-settings.bankPlace settings-settings.settable settings-settings.kept settings-settings.isGlobal settings-settings.guarded settings-settings.locked jumping-jump.jumps jumping-jump.addressOf waiting-waiting.isOn waiting-waiting.happened waiting-waiting.tested waiting-waiting.waited fields-fields.writable fields-fields.storable fields-fields.sap fields-fields.has fields-fields.takes fields-fields.sgp judge-judge.judged judge-judge.isFlow judge-judge.isReading leading-leading.byDepth leading-leading.recordStatus leading-leading.statusAt leading-leading.onward leading-leading.wayAt certificate.has certificate.closed certificate.certifies certificate.goes
-falling-goes = refl
-
-falling-bad : wayAt falling (point 1024 0) ≡ Bad Value
-unfolding words-bytes.wordOf words-bytes.putWord rows-row.allowed rows-row.taken sheet-line.lines sheet-rows.parameters sheet-rows.rows sheet-sheet.rweRows sheet-sheet.rwRows sheet-sheet.rRows sheet-sheet.axis sheet-sheet.globals sheet-sheet.readOnly store-store.written store-store.cellAt store-store.putCell store-store.recordAt store-store.putRecord settings-settings.bankPlace settings-settings.settable settings-settings.kept settings-settings.isGlobal settings-settings.guarded settings-settings.locked jumping-jump.jumps jumping-jump.addressOf waiting-waiting.isOn waiting-waiting.happened waiting-waiting.tested waiting-waiting.waited fields-fields.writable fields-fields.storable fields-fields.sap fields-fields.has fields-fields.takes fields-fields.sgp judge-judge.judged judge-judge.isFlow judge-judge.isReading leading-leading.byDepth leading-leading.recordStatus leading-leading.statusAt leading-leading.onward leading-leading.wayAt certificate.has certificate.closed certificate.certifies certificate.goes
-falling-bad = refl
-
-falling-lowest : Lowest (wayAt falling) (point 1024 0) Value
+pub falling-lowest : Lowest (wayAt falling) (point 1024 0) Value
 falling-lowest =
-    lowest-by (wayAt falling) (point 1024 0) Value (point 0 0 ∷ point 1023 0 ∷ point 1024 0 ∷ []) falling-certified
-    (reached-by (wayAt falling) first (point 1023 0 ∷ point 1024 0 ∷ []) Reach.begin falling-goes) falling-bad
+    lowest-by (wayAt falling) (point 1024 0) Value falling-points (computed .falling-certified)
+    (reached-by (wayAt falling) first falling-way Reach.begin (computed .falling-goes)) (computed .falling-bad)
 
 not-short : length {A = ℕ} (replicate 7161 0) ≡ 7168 → ⊥
 not-short e = omega (arith, e, length-replicate {A = ℕ} 7161 0)

@@ -1,6 +1,6 @@
 -- The runs, computed. Assumes nothing.
 use mathlib.Core.Path.{_≡_, refl}
-use mathlib.Core.Bool.{true, false}
+use mathlib.Core.Bool.{false}
 use mathlib.Core.List.{[], _∷_}
 use Rattle.words.specs.Bytes as words-bytes
 use Rattle.wrapping.specs.Wrap as wrapping-wrap
@@ -51,7 +51,7 @@ use Rattle.commands.specs.Obey as commands-obey
 use Rattle.datagrams.specs.Datagram as datagrams-datagram
 use Rattle.safety.specs.Events as safety-events
 use Rattle.safety.specs.Listed as safety-listed
-use Rattle.safety.specs.Events.{World, after, runsFromAnother, Quiet, MakesStep}
+use Rattle.safety.specs.Events.{World, Event, after, runsFromAnother, Quiet, MakesStep}
 use Rattle.safety.proofs.Records.{records-kept}
 use Rattle.witnesses.specs.Programs.{working}
 use Rattle.witnesses.specs.Runs.{damaged, notOurs, oneStep, runFromZero, run, badSample, tick, powerUp, onBoard, Runs}
@@ -67,7 +67,7 @@ unfolding after runsFromAnother
 quiet-rest w =
     Quiet.also refl refl (Quiet.also refl refl (Quiet.also refl refl (Quiet.also refl refl (Quiet.also refl refl Quiet.none))))
 
--- ---- the datagrams of a row
+-- ---- the boards between the datagrams of a row: none is in download mode, and no datagram names another address
 abbrev once : World
 once = onBoard working
 
@@ -80,45 +80,32 @@ thrice = after twice notOurs
 abbrev stepped : World
 stepped = after thrice oneStep
 
--- none of the boards is in download mode, and none of the datagrams names another address
-no-download-1 : once .registers .download .on ≡ false
-unfolding words-bytes.wordOf words-bytes.putWord wrapping-wrap.wrap rows-row.allowed rows-row.taken sheet-line.lines sheet-rows.parameters sheet-rows.rows sheet-sheet.rweRows sheet-sheet.rwRows sheet-sheet.rRows sheet-sheet.axis sheet-sheet.globals sheet-sheet.readOnly checksum-checksum.rightFrame wire-frame.putSeven wire-frame.frame store-store.written store-store.cellAt store-store.putCell store-store.recordAt store-store.putRecord serial-serial.takenOf stack-stack.pushed stack-stack.popped ranges-range.entriesInRange ranges-range.bitsInRange ranges-range.eachUpTo values-examples.defaultCells values-values.valuesInRange values-values.poweredAt values-values.poweredValues settings-settings.bankPlace settings-settings.settable settings-settings.kept settings-settings.isGlobal settings-settings.guarded settings-settings.locked calculating-calculate.calculated resetting-resetting.resetValues resetting-resetting.resetCells replying-reply.byteOf replying-reply.addresses replying-reply.replied flags-flags.raised jumping-jump.jumps jumping-jump.addressOf sampling-sample.settingsInRange sampling-sample.settled sampling-sample.sampleInRange waits-waits.ticked registers-range.coreInRange waiting-waiting.isOn waiting-waiting.happened waiting-waiting.tested waiting-waiting.waited flow-flow.jumped flow-flow.called flow-flow.returned flow-flow.halted flow-flow.waitedStep flow-flow.flowed fields-fields.writable fields-fields.storable fields-fields.sap fields-fields.has fields-fields.takes fields-fields.sgp effects-effects.setOutput motion-motion.withinLimit motion-motion.rightWithin motion-motion.leftWithin motion-motion.moveBy motion-motion.moveTo assigning-assigning.assign assigning-assigning.take assigning-assigning.keep numbers-numbers.intoAccumulator numbers-numbers.calc numbers-numbers.calcx numbers-numbers.clear judge-judge.judged judge-judge.isFlow judge-judge.isReading reading-reading.global reading-reading.digitalAt reading-reading.analogAt reading-reading.outputAt reading-reading.port reading-reading.read deciding-deciding.decidedBy deciding-deciding.worked stepping-step.carried stepping-step.obeyed stepping-step.step running-laws.walked running-run.run directing-direct.changed directing-direct.directed control-control.judged control-control.begun control-control.reset control-control.controlled control-control.shown control-control.answer board-range.registersInRange board-registers.unpowered board-registers.powered board-step.steps board-step.stepOnce events-events.poweredUp events-events.sampled events-events.ticked runs-run.run storing-storing.stored controlling-controlling.placed controlling-controlling.defaults controlling-controlling.controlled controlling-controlling.obeyedControl commands-obey.direct commands-obey.obeyed datagrams-datagram.obeyedBy datagrams-datagram.received datagrams-datagram.datagram safety-events.after safety-events.beginsProgram safety-events.runsFromAnother safety-listed.byValue safety-listed.byLock
-no-download-1 = refl
+record Still (w : World) (e : Event) : Type 0 where
+  no-download : w .registers .download .on ≡ false
+  no-address : runsFromAnother w e ≡ false
 
-no-download-2 : twice .registers .download .on ≡ false
-unfolding words-bytes.wordOf words-bytes.putWord wrapping-wrap.wrap rows-row.allowed rows-row.taken sheet-line.lines sheet-rows.parameters sheet-rows.rows sheet-sheet.rweRows sheet-sheet.rwRows sheet-sheet.rRows sheet-sheet.axis sheet-sheet.globals sheet-sheet.readOnly checksum-checksum.rightFrame wire-frame.putSeven wire-frame.frame store-store.written store-store.cellAt store-store.putCell store-store.recordAt store-store.putRecord serial-serial.takenOf stack-stack.pushed stack-stack.popped ranges-range.entriesInRange ranges-range.bitsInRange ranges-range.eachUpTo values-examples.defaultCells values-values.valuesInRange values-values.poweredAt values-values.poweredValues settings-settings.bankPlace settings-settings.settable settings-settings.kept settings-settings.isGlobal settings-settings.guarded settings-settings.locked calculating-calculate.calculated resetting-resetting.resetValues resetting-resetting.resetCells replying-reply.byteOf replying-reply.addresses replying-reply.replied flags-flags.raised jumping-jump.jumps jumping-jump.addressOf sampling-sample.settingsInRange sampling-sample.settled sampling-sample.sampleInRange waits-waits.ticked registers-range.coreInRange waiting-waiting.isOn waiting-waiting.happened waiting-waiting.tested waiting-waiting.waited flow-flow.jumped flow-flow.called flow-flow.returned flow-flow.halted flow-flow.waitedStep flow-flow.flowed fields-fields.writable fields-fields.storable fields-fields.sap fields-fields.has fields-fields.takes fields-fields.sgp effects-effects.setOutput motion-motion.withinLimit motion-motion.rightWithin motion-motion.leftWithin motion-motion.moveBy motion-motion.moveTo assigning-assigning.assign assigning-assigning.take assigning-assigning.keep numbers-numbers.intoAccumulator numbers-numbers.calc numbers-numbers.calcx numbers-numbers.clear judge-judge.judged judge-judge.isFlow judge-judge.isReading reading-reading.global reading-reading.digitalAt reading-reading.analogAt reading-reading.outputAt reading-reading.port reading-reading.read deciding-deciding.decidedBy deciding-deciding.worked stepping-step.carried stepping-step.obeyed stepping-step.step running-laws.walked running-run.run directing-direct.changed directing-direct.directed control-control.judged control-control.begun control-control.reset control-control.controlled control-control.shown control-control.answer board-range.registersInRange board-registers.unpowered board-registers.powered board-step.steps board-step.stepOnce events-events.poweredUp events-events.sampled events-events.ticked runs-run.run storing-storing.stored controlling-controlling.placed controlling-controlling.defaults controlling-controlling.controlled controlling-controlling.obeyedControl commands-obey.direct commands-obey.obeyed datagrams-datagram.obeyedBy datagrams-datagram.received datagrams-datagram.datagram safety-events.after safety-events.beginsProgram safety-events.runsFromAnother safety-listed.byValue safety-listed.byLock
-no-download-2 = refl
+record Row : Type 0 where
+  first : Still once damaged
+  second : Still twice notOurs
+  third : Still thrice oneStep
+  fourth : Still stepped runFromZero
 
-no-download-3 : thrice .registers .download .on ≡ false
+row : Row
 unfolding words-bytes.wordOf words-bytes.putWord wrapping-wrap.wrap rows-row.allowed rows-row.taken sheet-line.lines sheet-rows.parameters sheet-rows.rows sheet-sheet.rweRows sheet-sheet.rwRows sheet-sheet.rRows sheet-sheet.axis sheet-sheet.globals sheet-sheet.readOnly checksum-checksum.rightFrame wire-frame.putSeven wire-frame.frame store-store.written store-store.cellAt store-store.putCell store-store.recordAt store-store.putRecord serial-serial.takenOf stack-stack.pushed stack-stack.popped ranges-range.entriesInRange ranges-range.bitsInRange ranges-range.eachUpTo values-examples.defaultCells values-values.valuesInRange values-values.poweredAt values-values.poweredValues settings-settings.bankPlace settings-settings.settable settings-settings.kept settings-settings.isGlobal settings-settings.guarded settings-settings.locked calculating-calculate.calculated resetting-resetting.resetValues resetting-resetting.resetCells replying-reply.byteOf replying-reply.addresses replying-reply.replied flags-flags.raised jumping-jump.jumps jumping-jump.addressOf sampling-sample.settingsInRange sampling-sample.settled sampling-sample.sampleInRange waits-waits.ticked registers-range.coreInRange waiting-waiting.isOn waiting-waiting.happened waiting-waiting.tested waiting-waiting.waited flow-flow.jumped flow-flow.called flow-flow.returned flow-flow.halted flow-flow.waitedStep flow-flow.flowed fields-fields.writable fields-fields.storable fields-fields.sap fields-fields.has fields-fields.takes fields-fields.sgp effects-effects.setOutput motion-motion.withinLimit motion-motion.rightWithin motion-motion.leftWithin motion-motion.moveBy motion-motion.moveTo assigning-assigning.assign assigning-assigning.take assigning-assigning.keep numbers-numbers.intoAccumulator numbers-numbers.calc numbers-numbers.calcx numbers-numbers.clear judge-judge.judged judge-judge.isFlow judge-judge.isReading reading-reading.global reading-reading.digitalAt reading-reading.analogAt reading-reading.outputAt reading-reading.port reading-reading.read deciding-deciding.decidedBy deciding-deciding.worked stepping-step.carried stepping-step.obeyed stepping-step.step running-laws.walked running-run.run directing-direct.changed directing-direct.directed control-control.judged control-control.begun control-control.reset control-control.controlled control-control.shown control-control.answer board-range.registersInRange board-registers.unpowered board-registers.powered board-step.steps board-step.stepOnce events-events.poweredUp events-events.sampled events-events.ticked runs-run.run storing-storing.stored controlling-controlling.placed controlling-controlling.defaults controlling-controlling.controlled controlling-controlling.obeyedControl commands-obey.direct commands-obey.obeyed datagrams-datagram.obeyedBy datagrams-datagram.received datagrams-datagram.datagram safety-events.after safety-events.beginsProgram safety-events.runsFromAnother safety-listed.byValue safety-listed.byLock
-no-download-3 = refl
-
-no-download-4 : stepped .registers .download .on ≡ false
-unfolding words-bytes.wordOf words-bytes.putWord wrapping-wrap.wrap rows-row.allowed rows-row.taken sheet-line.lines sheet-rows.parameters sheet-rows.rows sheet-sheet.rweRows sheet-sheet.rwRows sheet-sheet.rRows sheet-sheet.axis sheet-sheet.globals sheet-sheet.readOnly checksum-checksum.rightFrame wire-frame.putSeven wire-frame.frame store-store.written store-store.cellAt store-store.putCell store-store.recordAt store-store.putRecord serial-serial.takenOf stack-stack.pushed stack-stack.popped ranges-range.entriesInRange ranges-range.bitsInRange ranges-range.eachUpTo values-examples.defaultCells values-values.valuesInRange values-values.poweredAt values-values.poweredValues settings-settings.bankPlace settings-settings.settable settings-settings.kept settings-settings.isGlobal settings-settings.guarded settings-settings.locked calculating-calculate.calculated resetting-resetting.resetValues resetting-resetting.resetCells replying-reply.byteOf replying-reply.addresses replying-reply.replied flags-flags.raised jumping-jump.jumps jumping-jump.addressOf sampling-sample.settingsInRange sampling-sample.settled sampling-sample.sampleInRange waits-waits.ticked registers-range.coreInRange waiting-waiting.isOn waiting-waiting.happened waiting-waiting.tested waiting-waiting.waited flow-flow.jumped flow-flow.called flow-flow.returned flow-flow.halted flow-flow.waitedStep flow-flow.flowed fields-fields.writable fields-fields.storable fields-fields.sap fields-fields.has fields-fields.takes fields-fields.sgp effects-effects.setOutput motion-motion.withinLimit motion-motion.rightWithin motion-motion.leftWithin motion-motion.moveBy motion-motion.moveTo assigning-assigning.assign assigning-assigning.take assigning-assigning.keep numbers-numbers.intoAccumulator numbers-numbers.calc numbers-numbers.calcx numbers-numbers.clear judge-judge.judged judge-judge.isFlow judge-judge.isReading reading-reading.global reading-reading.digitalAt reading-reading.analogAt reading-reading.outputAt reading-reading.port reading-reading.read deciding-deciding.decidedBy deciding-deciding.worked stepping-step.carried stepping-step.obeyed stepping-step.step running-laws.walked running-run.run directing-direct.changed directing-direct.directed control-control.judged control-control.begun control-control.reset control-control.controlled control-control.shown control-control.answer board-range.registersInRange board-registers.unpowered board-registers.powered board-step.steps board-step.stepOnce events-events.poweredUp events-events.sampled events-events.ticked runs-run.run storing-storing.stored controlling-controlling.placed controlling-controlling.defaults controlling-controlling.controlled controlling-controlling.obeyedControl commands-obey.direct commands-obey.obeyed datagrams-datagram.obeyedBy datagrams-datagram.received datagrams-datagram.datagram safety-events.after safety-events.beginsProgram safety-events.runsFromAnother safety-listed.byValue safety-listed.byLock
-no-download-4 = refl
-
-no-address-1 : runsFromAnother once damaged ≡ false
-unfolding words-bytes.wordOf words-bytes.putWord wrapping-wrap.wrap rows-row.allowed rows-row.taken sheet-line.lines sheet-rows.parameters sheet-rows.rows sheet-sheet.rweRows sheet-sheet.rwRows sheet-sheet.rRows sheet-sheet.axis sheet-sheet.globals sheet-sheet.readOnly checksum-checksum.rightFrame wire-frame.putSeven wire-frame.frame store-store.written store-store.cellAt store-store.putCell store-store.recordAt store-store.putRecord serial-serial.takenOf stack-stack.pushed stack-stack.popped ranges-range.entriesInRange ranges-range.bitsInRange ranges-range.eachUpTo values-examples.defaultCells values-values.valuesInRange values-values.poweredAt values-values.poweredValues settings-settings.bankPlace settings-settings.settable settings-settings.kept settings-settings.isGlobal settings-settings.guarded settings-settings.locked calculating-calculate.calculated resetting-resetting.resetValues resetting-resetting.resetCells replying-reply.byteOf replying-reply.addresses replying-reply.replied flags-flags.raised jumping-jump.jumps jumping-jump.addressOf sampling-sample.settingsInRange sampling-sample.settled sampling-sample.sampleInRange waits-waits.ticked registers-range.coreInRange waiting-waiting.isOn waiting-waiting.happened waiting-waiting.tested waiting-waiting.waited flow-flow.jumped flow-flow.called flow-flow.returned flow-flow.halted flow-flow.waitedStep flow-flow.flowed fields-fields.writable fields-fields.storable fields-fields.sap fields-fields.has fields-fields.takes fields-fields.sgp effects-effects.setOutput motion-motion.withinLimit motion-motion.rightWithin motion-motion.leftWithin motion-motion.moveBy motion-motion.moveTo assigning-assigning.assign assigning-assigning.take assigning-assigning.keep numbers-numbers.intoAccumulator numbers-numbers.calc numbers-numbers.calcx numbers-numbers.clear judge-judge.judged judge-judge.isFlow judge-judge.isReading reading-reading.global reading-reading.digitalAt reading-reading.analogAt reading-reading.outputAt reading-reading.port reading-reading.read deciding-deciding.decidedBy deciding-deciding.worked stepping-step.carried stepping-step.obeyed stepping-step.step running-laws.walked running-run.run directing-direct.changed directing-direct.directed control-control.judged control-control.begun control-control.reset control-control.controlled control-control.shown control-control.answer board-range.registersInRange board-registers.unpowered board-registers.powered board-step.steps board-step.stepOnce events-events.poweredUp events-events.sampled events-events.ticked runs-run.run storing-storing.stored controlling-controlling.placed controlling-controlling.defaults controlling-controlling.controlled controlling-controlling.obeyedControl commands-obey.direct commands-obey.obeyed datagrams-datagram.obeyedBy datagrams-datagram.received datagrams-datagram.datagram safety-events.after safety-events.beginsProgram safety-events.runsFromAnother safety-listed.byValue safety-listed.byLock
-no-address-1 = refl
-
-no-address-2 : runsFromAnother twice notOurs ≡ false
-unfolding words-bytes.wordOf words-bytes.putWord wrapping-wrap.wrap rows-row.allowed rows-row.taken sheet-line.lines sheet-rows.parameters sheet-rows.rows sheet-sheet.rweRows sheet-sheet.rwRows sheet-sheet.rRows sheet-sheet.axis sheet-sheet.globals sheet-sheet.readOnly checksum-checksum.rightFrame wire-frame.putSeven wire-frame.frame store-store.written store-store.cellAt store-store.putCell store-store.recordAt store-store.putRecord serial-serial.takenOf stack-stack.pushed stack-stack.popped ranges-range.entriesInRange ranges-range.bitsInRange ranges-range.eachUpTo values-examples.defaultCells values-values.valuesInRange values-values.poweredAt values-values.poweredValues settings-settings.bankPlace settings-settings.settable settings-settings.kept settings-settings.isGlobal settings-settings.guarded settings-settings.locked calculating-calculate.calculated resetting-resetting.resetValues resetting-resetting.resetCells replying-reply.byteOf replying-reply.addresses replying-reply.replied flags-flags.raised jumping-jump.jumps jumping-jump.addressOf sampling-sample.settingsInRange sampling-sample.settled sampling-sample.sampleInRange waits-waits.ticked registers-range.coreInRange waiting-waiting.isOn waiting-waiting.happened waiting-waiting.tested waiting-waiting.waited flow-flow.jumped flow-flow.called flow-flow.returned flow-flow.halted flow-flow.waitedStep flow-flow.flowed fields-fields.writable fields-fields.storable fields-fields.sap fields-fields.has fields-fields.takes fields-fields.sgp effects-effects.setOutput motion-motion.withinLimit motion-motion.rightWithin motion-motion.leftWithin motion-motion.moveBy motion-motion.moveTo assigning-assigning.assign assigning-assigning.take assigning-assigning.keep numbers-numbers.intoAccumulator numbers-numbers.calc numbers-numbers.calcx numbers-numbers.clear judge-judge.judged judge-judge.isFlow judge-judge.isReading reading-reading.global reading-reading.digitalAt reading-reading.analogAt reading-reading.outputAt reading-reading.port reading-reading.read deciding-deciding.decidedBy deciding-deciding.worked stepping-step.carried stepping-step.obeyed stepping-step.step running-laws.walked running-run.run directing-direct.changed directing-direct.directed control-control.judged control-control.begun control-control.reset control-control.controlled control-control.shown control-control.answer board-range.registersInRange board-registers.unpowered board-registers.powered board-step.steps board-step.stepOnce events-events.poweredUp events-events.sampled events-events.ticked runs-run.run storing-storing.stored controlling-controlling.placed controlling-controlling.defaults controlling-controlling.controlled controlling-controlling.obeyedControl commands-obey.direct commands-obey.obeyed datagrams-datagram.obeyedBy datagrams-datagram.received datagrams-datagram.datagram safety-events.after safety-events.beginsProgram safety-events.runsFromAnother safety-listed.byValue safety-listed.byLock
-no-address-2 = refl
-
-no-address-3 : runsFromAnother thrice oneStep ≡ false
-unfolding words-bytes.wordOf words-bytes.putWord wrapping-wrap.wrap rows-row.allowed rows-row.taken sheet-line.lines sheet-rows.parameters sheet-rows.rows sheet-sheet.rweRows sheet-sheet.rwRows sheet-sheet.rRows sheet-sheet.axis sheet-sheet.globals sheet-sheet.readOnly checksum-checksum.rightFrame wire-frame.putSeven wire-frame.frame store-store.written store-store.cellAt store-store.putCell store-store.recordAt store-store.putRecord serial-serial.takenOf stack-stack.pushed stack-stack.popped ranges-range.entriesInRange ranges-range.bitsInRange ranges-range.eachUpTo values-examples.defaultCells values-values.valuesInRange values-values.poweredAt values-values.poweredValues settings-settings.bankPlace settings-settings.settable settings-settings.kept settings-settings.isGlobal settings-settings.guarded settings-settings.locked calculating-calculate.calculated resetting-resetting.resetValues resetting-resetting.resetCells replying-reply.byteOf replying-reply.addresses replying-reply.replied flags-flags.raised jumping-jump.jumps jumping-jump.addressOf sampling-sample.settingsInRange sampling-sample.settled sampling-sample.sampleInRange waits-waits.ticked registers-range.coreInRange waiting-waiting.isOn waiting-waiting.happened waiting-waiting.tested waiting-waiting.waited flow-flow.jumped flow-flow.called flow-flow.returned flow-flow.halted flow-flow.waitedStep flow-flow.flowed fields-fields.writable fields-fields.storable fields-fields.sap fields-fields.has fields-fields.takes fields-fields.sgp effects-effects.setOutput motion-motion.withinLimit motion-motion.rightWithin motion-motion.leftWithin motion-motion.moveBy motion-motion.moveTo assigning-assigning.assign assigning-assigning.take assigning-assigning.keep numbers-numbers.intoAccumulator numbers-numbers.calc numbers-numbers.calcx numbers-numbers.clear judge-judge.judged judge-judge.isFlow judge-judge.isReading reading-reading.global reading-reading.digitalAt reading-reading.analogAt reading-reading.outputAt reading-reading.port reading-reading.read deciding-deciding.decidedBy deciding-deciding.worked stepping-step.carried stepping-step.obeyed stepping-step.step running-laws.walked running-run.run directing-direct.changed directing-direct.directed control-control.judged control-control.begun control-control.reset control-control.controlled control-control.shown control-control.answer board-range.registersInRange board-registers.unpowered board-registers.powered board-step.steps board-step.stepOnce events-events.poweredUp events-events.sampled events-events.ticked runs-run.run storing-storing.stored controlling-controlling.placed controlling-controlling.defaults controlling-controlling.controlled controlling-controlling.obeyedControl commands-obey.direct commands-obey.obeyed datagrams-datagram.obeyedBy datagrams-datagram.received datagrams-datagram.datagram safety-events.after safety-events.beginsProgram safety-events.runsFromAnother safety-listed.byValue safety-listed.byLock
-no-address-3 = refl
-
-no-address-4 : runsFromAnother stepped runFromZero ≡ false
-unfolding words-bytes.wordOf words-bytes.putWord wrapping-wrap.wrap rows-row.allowed rows-row.taken sheet-line.lines sheet-rows.parameters sheet-rows.rows sheet-sheet.rweRows sheet-sheet.rwRows sheet-sheet.rRows sheet-sheet.axis sheet-sheet.globals sheet-sheet.readOnly checksum-checksum.rightFrame wire-frame.putSeven wire-frame.frame store-store.written store-store.cellAt store-store.putCell store-store.recordAt store-store.putRecord serial-serial.takenOf stack-stack.pushed stack-stack.popped ranges-range.entriesInRange ranges-range.bitsInRange ranges-range.eachUpTo values-examples.defaultCells values-values.valuesInRange values-values.poweredAt values-values.poweredValues settings-settings.bankPlace settings-settings.settable settings-settings.kept settings-settings.isGlobal settings-settings.guarded settings-settings.locked calculating-calculate.calculated resetting-resetting.resetValues resetting-resetting.resetCells replying-reply.byteOf replying-reply.addresses replying-reply.replied flags-flags.raised jumping-jump.jumps jumping-jump.addressOf sampling-sample.settingsInRange sampling-sample.settled sampling-sample.sampleInRange waits-waits.ticked registers-range.coreInRange waiting-waiting.isOn waiting-waiting.happened waiting-waiting.tested waiting-waiting.waited flow-flow.jumped flow-flow.called flow-flow.returned flow-flow.halted flow-flow.waitedStep flow-flow.flowed fields-fields.writable fields-fields.storable fields-fields.sap fields-fields.has fields-fields.takes fields-fields.sgp effects-effects.setOutput motion-motion.withinLimit motion-motion.rightWithin motion-motion.leftWithin motion-motion.moveBy motion-motion.moveTo assigning-assigning.assign assigning-assigning.take assigning-assigning.keep numbers-numbers.intoAccumulator numbers-numbers.calc numbers-numbers.calcx numbers-numbers.clear judge-judge.judged judge-judge.isFlow judge-judge.isReading reading-reading.global reading-reading.digitalAt reading-reading.analogAt reading-reading.outputAt reading-reading.port reading-reading.read deciding-deciding.decidedBy deciding-deciding.worked stepping-step.carried stepping-step.obeyed stepping-step.step running-laws.walked running-run.run directing-direct.changed directing-direct.directed control-control.judged control-control.begun control-control.reset control-control.controlled control-control.shown control-control.answer board-range.registersInRange board-registers.unpowered board-registers.powered board-step.steps board-step.stepOnce events-events.poweredUp events-events.sampled events-events.ticked runs-run.run storing-storing.stored controlling-controlling.placed controlling-controlling.defaults controlling-controlling.controlled controlling-controlling.obeyedControl commands-obey.direct commands-obey.obeyed datagrams-datagram.obeyedBy datagrams-datagram.received datagrams-datagram.datagram safety-events.after safety-events.beginsProgram safety-events.runsFromAnother safety-listed.byValue safety-listed.byLock
-no-address-4 = refl
+row =
+    record {
+      first = record { no-download = refl; no-address = refl };
+      second = record { no-download = refl; no-address = refl };
+      third = record { no-download = refl; no-address = refl };
+      fourth = record { no-download = refl; no-address = refl };
+    }
 
 quiet : Quiet once (damaged ∷ notOurs ∷ oneStep ∷ runFromZero ∷ run ∷ badSample ∷ tick ∷ powerUp ∷ run ∷ [])
 quiet =
-    Quiet.also (records-kept once damaged no-download-1) no-address-1
-    (Quiet.also (records-kept twice notOurs no-download-2) no-address-2
-    (Quiet.also (records-kept thrice oneStep no-download-3) no-address-3
-    (Quiet.also (records-kept stepped runFromZero no-download-4) no-address-4 (quiet-rest (after stepped runFromZero)))))
+    Quiet.also (records-kept once damaged (row .first .no-download)) (row .first .no-address)
+    (Quiet.also (records-kept twice notOurs (row .second .no-download)) (row .second .no-address)
+    (Quiet.also (records-kept thrice oneStep (row .third .no-download)) (row .third .no-address)
+    (Quiet.also (records-kept stepped runFromZero (row .fourth .no-download)) (row .fourth .no-address) (quiet-rest (after stepped runFromZero)))))
 
 pub runs : Runs
 unfolding words-bytes.wordOf words-bytes.putWord wrapping-wrap.wrap rows-row.allowed rows-row.taken sheet-line.lines sheet-rows.parameters sheet-rows.rows sheet-sheet.rweRows sheet-sheet.rwRows sheet-sheet.rRows sheet-sheet.axis sheet-sheet.globals sheet-sheet.readOnly checksum-checksum.rightFrame wire-frame.putSeven wire-frame.frame store-store.written store-store.cellAt store-store.putCell store-store.recordAt store-store.putRecord serial-serial.takenOf stack-stack.pushed stack-stack.popped ranges-range.entriesInRange ranges-range.bitsInRange ranges-range.eachUpTo values-examples.defaultCells values-values.valuesInRange values-values.poweredAt values-values.poweredValues settings-settings.bankPlace settings-settings.settable settings-settings.kept settings-settings.isGlobal settings-settings.guarded settings-settings.locked calculating-calculate.calculated resetting-resetting.resetValues resetting-resetting.resetCells replying-reply.byteOf replying-reply.addresses replying-reply.replied flags-flags.raised jumping-jump.jumps jumping-jump.addressOf sampling-sample.settingsInRange sampling-sample.settled sampling-sample.sampleInRange waits-waits.ticked registers-range.coreInRange waiting-waiting.isOn waiting-waiting.happened waiting-waiting.tested waiting-waiting.waited flow-flow.jumped flow-flow.called flow-flow.returned flow-flow.halted flow-flow.waitedStep flow-flow.flowed fields-fields.writable fields-fields.storable fields-fields.sap fields-fields.has fields-fields.takes fields-fields.sgp effects-effects.setOutput motion-motion.withinLimit motion-motion.rightWithin motion-motion.leftWithin motion-motion.moveBy motion-motion.moveTo assigning-assigning.assign assigning-assigning.take assigning-assigning.keep numbers-numbers.intoAccumulator numbers-numbers.calc numbers-numbers.calcx numbers-numbers.clear judge-judge.judged judge-judge.isFlow judge-judge.isReading reading-reading.global reading-reading.digitalAt reading-reading.analogAt reading-reading.outputAt reading-reading.port reading-reading.read deciding-deciding.decidedBy deciding-deciding.worked stepping-step.carried stepping-step.obeyed stepping-step.step running-laws.walked running-run.run directing-direct.changed directing-direct.directed control-control.judged control-control.begun control-control.reset control-control.controlled control-control.shown control-control.answer board-range.registersInRange board-registers.unpowered board-registers.powered board-step.steps board-step.stepOnce events-events.poweredUp events-events.sampled events-events.ticked runs-run.run storing-storing.stored controlling-controlling.placed controlling-controlling.defaults controlling-controlling.controlled controlling-controlling.obeyedControl commands-obey.direct commands-obey.obeyed datagrams-datagram.obeyedBy datagrams-datagram.received datagrams-datagram.datagram safety-events.after safety-events.beginsProgram safety-events.runsFromAnother safety-listed.byValue safety-listed.byLock

@@ -33,7 +33,8 @@ use Rattle.numbers.specs.Numbers.{intoAccumulator, calc, calcx, cleared, clear}
 use Rattle.fields.specs.Fields as fields
 use Rattle.judge.specs.Judge as judge
 use Rattle.pins.specs.Pins.{bitOf}
-use Rattle.deciding.specs.Deciding.{decidedBy, decided}
+use Rattle.deciding.specs.Deciding.{decided}
+use Rattle.deciding.proofs.Cases.{by-command}
 use Rattle.keeping.proofs.Cores.{parts}
 use Rattle.keeping.proofs.Settings.{position-allowed, kept-allowed, set-allowed, move-allowed}
 use Rattle.keeping.proofs.Applied.{Good}
@@ -133,44 +134,28 @@ module _ (c : Command) (h : isDone (judge.judged c) ≡ true) where
 
 pub decided-good : (c : Command) (core : Core) (values : List ℤ) → isDone (judge.judged c) ≡ true → SFits w32 (c .value .v)
     → coreInRange core ≡ true → Good (decided c core values)
-unfolding decidedBy
 decided-good c core values h f g =
-    let n = c .number in
     let v = c .value .v in
     let a = core .accumulator in
-    let x = core .x in
     let axis = axisPlace (c .kind) in
     let bank = bankPlace (c .motor) (c .kind) in
-    let from-36 = clear (c .kind) (core .flags) in
-    let from-35 = pick (eqb n 35) (take bank a values) from-36 in
-    let from-34 = pick (eqb n 34) (take axis a values) from-35 in
-    let from-33 = pick (eqb n 33) (calcx (c .kind) a x) from-34 in
-    let from-20 = pick (eqb n 20) (Last (comparedW (a .v) v)) from-33 in
-    let from-19 = pick (eqb n 19) (calc (c .kind) (c .value) a x) from-20 in
-    let from-14 = pick (eqb n 14) (Output (c .kind) (bitOf v)) from-19 in
-    let from-12 = pick (eqb n 12) (Restore bank) from-14 in
-    let from-11 = pick (eqb n 11) (keep bank values) from-12 in
-    let from-9 = pick (eqb n 9) (assign bank (c .value) values) from-11 in
-    let from-8 = pick (eqb n 8) (Restore axis) from-9 in
-    let from-7 = pick (eqb n 7) (keep axis values) from-8 in
-    let from-5 = pick (eqb n 5) (assign axis (c .value) values) from-7 in
-    let from-4 = pick (eqb n 4) (moveTo (c .kind) (c .value) values) from-5 in
-    let from-3 = pick (eqb n 3) stop from-4 in
-    let from-2 = pick (eqb n 2) (leftWithin (parameter 43 values .v) v) from-3 in
-    picked Good (eqb n 1) (rightWithin (parameter 43 values .v) v) from-2 (λ _. right-good (parameter 43 values .v) v)
-    (picked Good (eqb n 2) (leftWithin (parameter 43 values .v) v) from-3 (λ _. left-good (parameter 43 values .v) v)
-    (picked Good (eqb n 3) stop from-4 (λ _. tt)
-    (picked Good (eqb n 4) (moveTo (c .kind) (c .value) values) from-5 (λ _. to-good (c .kind) (c .value) values f)
-    (picked Good (eqb n 5) (assign axis (c .value) values) from-7 (λ e. assign-good axis (c .value) values (axis-settable c h (eqb-true n 5 e)))
-    (picked Good (eqb n 7) (keep axis values) from-8 (λ _. keep-good axis values)
-    (picked Good (eqb n 8) (Restore axis) from-9 (λ _. tt)
-    (picked Good (eqb n 9) (assign bank (c .value) values) from-11 (λ e. assign-good bank (c .value) values (bank-settable c h (eqb-true n 9 e)))
-    (picked Good (eqb n 11) (keep bank values) from-12 (λ _. keep-good bank values)
-    (picked Good (eqb n 12) (Restore bank) from-14 (λ _. tt)
-    (picked Good (eqb n 14) (Output (c .kind) (bitOf v)) from-19 (λ _. bit-good v)
-    (picked Good (eqb n 19) (calc (c .kind) (c .value) a x) from-20 (λ _. calc-good (c .kind) (c .value) a x)
-    (picked Good (eqb n 20) (Last (comparedW (a .v) v)) from-33 (λ _. tt)
-    (picked Good (eqb n 33) (calcx (c .kind) a x) from-34 (λ _. calcx-good (c .kind) a x)
-    (picked Good (eqb n 34) (take axis a values) from-35 (λ _. take-good axis a values)
-    (picked Good (eqb n 35) (take bank a values) from-36 (λ _. take-good bank a values)
-    (clear-good (c .kind) (core .flags) (parts core g .flags)))))))))))))))))
+    by-command c core values Good
+    (record {
+      ror = λ _. right-good (parameter 43 values .v) v;
+      rol = λ _. left-good (parameter 43 values .v) v;
+      mst = λ _. tt;
+      mvp = λ _. to-good (c .kind) (c .value) values f;
+      sap = λ e. assign-good axis (c .value) values (axis-settable c h e);
+      stap = λ _. keep-good axis values;
+      rsap = λ _. tt;
+      sgp = λ e. assign-good bank (c .value) values (bank-settable c h e);
+      stgp = λ _. keep-good bank values;
+      rsgp = λ _. tt;
+      sio = λ _. bit-good v;
+      calc = λ _. calc-good (c .kind) (c .value) a (core .x);
+      comp = λ _. tt;
+      calcx = λ _. calcx-good (c .kind) a (core .x);
+      aap = λ _. take-good axis a values;
+      agp = λ _. take-good bank a values;
+      cle = clear-good (c .kind) (core .flags) (parts core g .flags);
+    })

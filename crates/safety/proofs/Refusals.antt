@@ -2,6 +2,7 @@
 use Prim.Native.Nat.{ℕ, _+_, _<_}
 use native.Mathlib.Omega.{arith}
 use mathlib.Core.Path.{_≡_, refl, sym, ap, _∙_}
+use mathlib.Core.Logic.{_⊎_, inl, inr}
 use mathlib.Core.Bool.{Bool, true, false, not, true≢false, false≢true, _&&_, _||_}
 use mathlib.Core.List.{List, [], _∷_, _++_}
 use lib.Dec.{eqb, leb, ltb}
@@ -37,7 +38,8 @@ use Rattle.numbers.specs.Numbers.{intoAccumulator, calc, calcx, clear}
 use Rattle.fields.specs.Fields as fields
 use Rattle.judge.specs.Judge.{judged}
 use Rattle.pins.specs.Pins.{bitOf}
-use Rattle.deciding.specs.Deciding.{decidedBy, decided}
+use Rattle.deciding.specs.Deciding.{decided}
+use Rattle.deciding.proofs.Cases.{by-command}
 use Rattle.safety.specs.Listed.{byValue, byLock, Listed}
 
 -- ---- what the judge has let through
@@ -241,53 +243,43 @@ module _ (c : Command) (accumulator x : Word) where
       (into-listed e (fields.divides (c .kind)) refl))
 
 -- ---- all that work
+module _ (c : Command) where
+  by-accumulator : (c .number ≡ 34) ⊎ (c .number ≡ 35) → byValue c ≡ true
+  unfolding byValue
+  by-accumulator (inl q) = simp q
+  by-accumulator (inr q) = simp q
+
+  by-storing : (c .number ≡ 7) ⊎ (c .number ≡ 11) → byLock c ≡ true
+  unfolding byLock
+  by-storing (inl q) = simp q
+  by-storing (inr q) = simp q
+
 pub decided-listed : (c : Command) (core : Core) (values : List ℤ) → isDone (judged c) ≡ true → Listed c (statusOf (decided c core values))
-unfolding decidedBy byValue byLock clear
+unfolding clear
 decided-listed c core values h =
-    let n = c .number in
-    let v = c .value .v in
     let a = core .accumulator in
-    let x = core .x in
     let axis = axisPlace (c .kind) in
     let bank = bankPlace (c .motor) (c .kind) in
-    let from-36 = clear (c .kind) (core .flags) in
-    let from-35 = pick (eqb n 35) (take bank a values) from-36 in
-    let from-34 = pick (eqb n 34) (take axis a values) from-35 in
-    let from-33 = pick (eqb n 33) (calcx (c .kind) a x) from-34 in
-    let from-20 = pick (eqb n 20) (effect.Last (comparedW (a .v) v)) from-33 in
-    let from-19 = pick (eqb n 19) (calc (c .kind) (c .value) a x) from-20 in
-    let from-14 = pick (eqb n 14) (effect.Output (c .kind) (bitOf v)) from-19 in
-    let from-12 = pick (eqb n 12) (effect.Restore bank) from-14 in
-    let from-11 = pick (eqb n 11) (keep bank values) from-12 in
-    let from-9 = pick (eqb n 9) (assign bank (c .value) values) from-11 in
-    let from-8 = pick (eqb n 8) (effect.Restore axis) from-9 in
-    let from-7 = pick (eqb n 7) (keep axis values) from-8 in
-    let from-5 = pick (eqb n 5) (assign axis (c .value) values) from-7 in
-    let from-4 = pick (eqb n 4) (moveTo (c .kind) (c .value) values) from-5 in
-    let from-3 = pick (eqb n 3) stop from-4 in
-    let from-2 = pick (eqb n 2) (leftWithin (parameter 43 values .v) v) from-3 in
-    picked (On c) (eqb n 1) (rightWithin (parameter 43 values .v) v) from-2 (λ e. right-listed c (parameter 43 values .v) v (eqb-true n 1 e))
-    (picked (On c) (eqb n 2) (leftWithin (parameter 43 values .v) v) from-3 (λ e. left-listed c (parameter 43 values .v) v (eqb-true n 2 e))
-    (picked (On c) (eqb n 3) stop from-4 (λ _. Listed.carried-out)
-    (picked (On c) (eqb n 4) (moveTo (c .kind) (c .value) values) from-5
-    (λ e. let q = eqb-true n 4 e in to-listed c values q (move-kind c h q))
-    (picked (On c) (eqb n 5) (assign axis (c .value) values) from-7
-    (λ e. assign-listed c axis (c .value) values (axis-lock c (sap-writable c h (eqb-true n 5 e))))
-    (picked (On c) (eqb n 7) (keep axis values) from-8 (λ e. keep-listed c axis values (simp (eqb-true n 7 e)))
-    (picked (On c) (eqb n 8) (effect.Restore axis) from-9 (λ _. Listed.carried-out)
-    (picked (On c) (eqb n 9) (assign bank (c .value) values) from-11
-    (λ e. let q = eqb-true n 9 e in assign-listed c bank (c .value) values (λ _ g. sgp-lock c (sgp-bank c h q) g q))
-    (picked (On c) (eqb n 11) (keep bank values) from-12 (λ e. keep-listed c bank values (simp (eqb-true n 11 e)))
-    (picked (On c) (eqb n 12) (effect.Restore bank) from-14 (λ _. Listed.carried-out)
-    (picked (On c) (eqb n 14) (effect.Output (c .kind) (bitOf v)) from-19 (λ _. Listed.carried-out)
-    (picked (On c) (eqb n 19) (calc (c .kind) (c .value) a x) from-20 (λ e. calc-listed c a x (calc-divisor c h (eqb-true n 19 e)))
-    (picked (On c) (eqb n 20) (effect.Last (comparedW (a .v) v)) from-33 (λ _. Listed.carried-out)
-    (picked (On c) (eqb n 33) (calcx (c .kind) a x) from-34 (λ e. calcx-listed c a x (eqb-true n 33 e))
-    (picked (On c) (eqb n 34) (take axis a values) from-35
-    (λ e. let q = eqb-true n 34 e in take-listed c axis a values (simp q) (axis-lock c (aap-writable c h q)))
-    (picked (On c) (eqb n 35) (take bank a values) from-36
-    (λ e. let q = eqb-true n 35 e in take-listed c bank a values (simp q) (λ _ g. agp-lock c (agp-bank c h q) g q))
-    Listed.carried-out)))))))))))))))
+    by-command c core values (On c)
+    (record {
+      ror = right-listed c (parameter 43 values .v) (c .value .v);
+      rol = left-listed c (parameter 43 values .v) (c .value .v);
+      mst = λ _. Listed.carried-out;
+      mvp = λ e. to-listed c values e (move-kind c h e);
+      sap = λ e. assign-listed c axis (c .value) values (axis-lock c (sap-writable c h e));
+      stap = λ e. keep-listed c axis values (by-storing c (inl e));
+      rsap = λ _. Listed.carried-out;
+      sgp = λ e. assign-listed c bank (c .value) values (λ _ g. sgp-lock c (sgp-bank c h e) g e);
+      stgp = λ e. keep-listed c bank values (by-storing c (inr e));
+      rsgp = λ _. Listed.carried-out;
+      sio = λ _. Listed.carried-out;
+      calc = λ e. calc-listed c a (core .x) (calc-divisor c h e);
+      comp = λ _. Listed.carried-out;
+      calcx = calcx-listed c a (core .x);
+      aap = λ e. take-listed c axis a values (by-accumulator c (inl e)) (axis-lock c (aap-writable c h e));
+      agp = λ e. take-listed c bank a values (by-accumulator c (inr e)) (λ _ g. agp-lock c (agp-bank c h e) g e);
+      cle = Listed.carried-out;
+    })
 
 -- ---- WAIT
 abbrev pub isRefused : Waited → Bool

@@ -1,6 +1,5 @@
 -- A list of points that holds the first one and all that its points lead to holds every point that is reached: so what a concrete
 -- program's check answers is computed. Assumes nothing.
-use Prim.Native.Nat.{ℕ}
 use mathlib.Core.Path.{_≡_, refl, sym, subst}
 use mathlib.Core.Logic.{inl, inr, ⊎-elim}
 use mathlib.Core.Bool.{Bool, true, false, not, false≢true, _&&_, _||_}

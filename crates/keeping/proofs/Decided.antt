@@ -1,7 +1,7 @@
 -- What is decided of a command that the judge has let through keeps registers in range. Assumes nothing.
 use Prim.Native.Nat.{ℕ}
 use mathlib.Core.Path.{_≡_, refl}
-use mathlib.Core.Bool.{true, false}
+use mathlib.Core.Bool.{true}
 use mathlib.Core.List.{List, [], _∷_}
 use borrow.Author.Tests.{eqb-true}
 use lib.Dec.{eqb}
@@ -12,7 +12,7 @@ use Rattle.words.specs.Word.{pick, word}
 use Rattle.words.specs.declared.Word.{Word}
 use Rattle.words.proofs.Bools.{each, picked, either}
 use Rattle.wire.specs.declared.Command.{Command}
-use Rattle.order.specs.Order.{sameW, comparedW}
+use Rattle.order.specs.Order.{sameW}
 use Rattle.ranges.specs.Range.{every, bitInRange, bitsInRange}
 use Rattle.registers.specs.Range.{coreInRange}
 use Rattle.flags.specs.Flags.{flagsInRange}
@@ -22,9 +22,8 @@ use Rattle.settings.specs.Settings.{axisPlace, bankPlace, settable, kept, isGlo
 use Rattle.status.specs.Status.{isDone}
 use Rattle.status.specs.declared.Status.the-variants.{Value, Locked}
 use Rattle.status.proofs.Statuses.{all-right}
-use Rattle.effects.specs.declared.Effect.{Effect}
-use Rattle.effects.specs.declared.Effect.the-variants.{Refused, Move, Set, Global, Store, Restore, Output, Numbers, Last}
-use Rattle.motion.specs.Motion.{parameter, withinLimit, turn, rightWithin, leftWithin, stop, isWord, moveBy, moveTo}
+use Rattle.effects.specs.declared.Effect.the-variants.{Refused, Move, Set, Global, Store, Numbers}
+use Rattle.motion.specs.Motion.{parameter, withinLimit, turn, rightWithin, leftWithin, isWord, moveBy, moveTo}
 use Rattle.motion.proofs.Limits.{word-fits}
 use Rattle.assigning.specs.Assigning.{shut, assign, take, keep}
 use Rattle.dividing.specs.Divide.{Answer}

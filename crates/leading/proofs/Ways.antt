@@ -3,18 +3,15 @@ use Prim.Native.Nat.{ℕ, _+_, _<_, _≤_}
 use native.Mathlib.Omega.{arith}
 use mathlib.Core.Path.{_≡_, refl, sym, ap, _∙_, subst}
 use mathlib.Core.Logic.{_⊎_, ⊎-elim}
-use mathlib.Core.Bool.{Bool, true, false, true≢false, false≢true, _&&_}
+use mathlib.Core.Bool.{Bool, true, false, true≢false, _&&_}
 use mathlib.Core.List.{List}
-use lib.Dec.{eqb, leb, ltb}
-use lib.IntN.{ℤ}
-use borrow.Author.Tests.{eqb-true, eq-eqb, leb-false, ltb-true}
-use Rattle.words.specs.Word.{pick, bitsOf}
+use lib.Dec.{eqb}
+use borrow.Author.Tests.{leb-false}
+use Rattle.words.specs.Word.{pick}
 use Rattle.words.proofs.Bools.{not-other, picked, either}
 use Rattle.wire.specs.declared.Command.{Command}
 use Rattle.store.specs.Store.{recordAt}
-use Rattle.registers.specs.Registers.{nextAddress}
 use Rattle.registers.proofs.Addresses.{next-low}
-use Rattle.jumping.specs.Jump.{addressOf}
 use Rattle.jumping.proofs.Addresses.{address-low}
 use Rattle.status.specs.Status.{isDone}
 use Rattle.status.specs.declared.Status.{Status}

@@ -2,14 +2,14 @@
 use Prim.Native.Nat.{ℕ, _+_}
 use native.Mathlib.Omega.{arith}
 use mathlib.Core.Path.{_≡_, refl, sym, ap, _∙_, subst}
-use mathlib.Core.Bool.{Bool, true, false, not, true≢false, false≢true, _&&_, _||_}
+use mathlib.Core.Bool.{true, false, not, _&&_}
 use mathlib.Core.List.{List}
 use lib.Dec.{eqb, leb}
-use lib.IntN.{ℤ, pos, negsuc}
+use lib.IntN.{ℤ, pos}
 use lib.ListN.{length}
-use borrow.Author.Tests.{eqb-true, eqb-false, eq-eqb, leb-true, le-leb, not-false}
-use Rattle.words.specs.Word.{pick, bitsOf}
-use Rattle.words.proofs.Bools.{each, not-other, picked, either}
+use borrow.Author.Tests.{eqb-true, eqb-false, leb-true, not-false}
+use Rattle.words.specs.Word.{pick}
+use Rattle.words.proofs.Bools.{not-other, picked, either}
 use Rattle.wire.specs.declared.Command.{Command}
 use Rattle.order.specs.Order.{sameW}
 use Rattle.order.proofs.Same.{same-number}
@@ -21,9 +21,9 @@ use Rattle.registers.specs.declared.Core.{Core}
 use Rattle.jumping.specs.Jump.{addressOf}
 use Rattle.sampling.specs.Sample.{sampleInRange}
 use Rattle.sampling.specs.declared.Sample.{Sample}
-use Rattle.status.specs.Status.{numberOf, isDone, inOrder}
+use Rattle.status.specs.Status.{numberOf, isDone}
 use Rattle.status.specs.declared.Status.{Status}
-use Rattle.status.specs.declared.Status.the-variants.{Done, Stored, Checksum, Unknown, Kind, Value, Locked, Unavailable}
+use Rattle.status.specs.declared.Status.the-variants.{Done, Stored, Unknown, Value, Locked, Unavailable}
 use Rattle.status.proofs.Statuses.{is-done, all-right}
 use Rattle.serial.specs.Serial.{takenOf}
 use Rattle.serial.specs.declared.Taken.{Taken}

@@ -1,6 +1,6 @@
 -- A step at a bad point has the status that the check names. Assumes nothing.
 use Prim.Native.Nat.{ℕ}
-use mathlib.Core.Path.{_≡_, refl, sym, _∙_}
+use mathlib.Core.Path.{_≡_, refl}
 use mathlib.Core.Bool.{Bool, true, false, _&&_}
 use mathlib.Core.List.{List}
 use lib.Dec.{eqb, leb}
@@ -10,7 +10,6 @@ use Rattle.words.proofs.Bools.{each, picked, either}
 use Rattle.wire.specs.declared.Command.{Command}
 use Rattle.store.specs.Store.{recordAt}
 use Rattle.registers.specs.Registers.{next, stopped}
-use Rattle.registers.specs.declared.Core.{Core}
 use Rattle.status.specs.Status.{isDone, isUnknown}
 use Rattle.status.specs.declared.Status.{Status}
 use Rattle.status.specs.declared.Status.the-variants.{Done, Value, Unavailable}

@@ -1,22 +1,20 @@
 -- What a command that the judge lets through is still refused with: only what is listed. Assumes nothing.
-use Prim.Native.Nat.{ℕ, _+_, _<_}
+use Prim.Native.Nat.{ℕ, _+_}
 use native.Mathlib.Omega.{arith}
-use mathlib.Core.Path.{_≡_, refl, sym, ap, _∙_}
+use mathlib.Core.Path.{_≡_, refl, sym, _∙_}
 use mathlib.Core.Logic.{_⊎_, inl, inr}
 use mathlib.Core.Bool.{Bool, true, false, not, true≢false, false≢true, _&&_, _||_}
-use mathlib.Core.List.{List, [], _∷_, _++_}
-use lib.Dec.{eqb, leb, ltb}
+use mathlib.Core.List.{List}
+use lib.Dec.{eqb, leb}
 use lib.IntN.{ℤ, pos, negsuc, negℤ, _+ℤ_}
-use lib.ListN.{length}
-use borrow.Author.Tests.{eqb-true, eqb-false, ne-eqb, leb-true, ltb-true, ltb-false, lt-leb, not-true}
+use borrow.Author.Tests.{eqb-true, eqb-false, leb-true, ltb-true, lt-leb, not-true}
 use Rattle.words.specs.Word.{pick, word}
 use Rattle.words.specs.declared.Word.{Word}
 use Rattle.words.proofs.Bools.{each, or-else, picked, either}
 use Rattle.wire.specs.declared.Command.{Command}
-use Rattle.order.specs.Order.{sameW, comparedW}
+use Rattle.order.specs.Order.{sameW}
 use Rattle.sheet.specs.Sheet.{axis, globals, readOnly}
 use Rattle.sheet.specs.Rows.{parameters}
-use Rattle.sheet.specs.Places.{placeIn}
 use Rattle.settings.specs.Settings.{axisPlace, bankPlace, settable, kept, isGlobal, guarded, locked}
 use Rattle.registers.specs.declared.Core.{Core}
 use Rattle.waits.specs.declared.Wait.{Wait}
@@ -24,20 +22,18 @@ use Rattle.waiting.specs.Waiting.{happened, armedFrom, notNegative, armedWith, 
 use Rattle.waiting.specs.declared.Waited.{Waited}
 use Rattle.waiting.specs.declared.Waited.the-variants.{Refused, Passed, TimedOut, Holding}
 use Rattle.status.specs.Status.{isDone}
-use Rattle.status.specs.declared.Status.{Status}
-use Rattle.status.specs.declared.Status.the-variants.{Done, Value, Locked}
+use Rattle.status.specs.declared.Status.the-variants.{Value, Locked}
 use Rattle.status.proofs.Statuses.{all-right}
 use Rattle.effects.specs.Effects.{statusOf}
 use Rattle.effects.specs.declared.Effect.{Effect}
 use Rattle.effects.specs.declared.Effect.the-variants as effect
-use Rattle.motion.specs.Motion.{parameter, withinLimit, turn, rightWithin, leftWithin, stop, isWord, moveBy, moveTo}
+use Rattle.motion.specs.Motion.{parameter, withinLimit, turn, rightWithin, leftWithin, isWord, moveBy, moveTo}
 use Rattle.assigning.specs.Assigning.{shut, assign, take, keep}
-use Rattle.dividing.specs.Divide.{Answer, isZero, done, byZero, dividedW, remainderW}
+use Rattle.dividing.specs.Divide.{Answer, isZero}
 use Rattle.calculating.specs.Calculate.{calculated}
 use Rattle.numbers.specs.Numbers.{intoAccumulator, calc, calcx, clear}
 use Rattle.fields.specs.Fields as fields
 use Rattle.judge.specs.Judge.{judged}
-use Rattle.pins.specs.Pins.{bitOf}
 use Rattle.deciding.specs.Deciding.{decided}
 use Rattle.deciding.proofs.Cases.{by-command}
 use Rattle.safety.specs.Listed.{byValue, byLock, Listed}

@@ -1,38 +1,32 @@
 -- Where a passed program stands: at a reached point, with return addresses that are reached. Assumes nothing.
-use Prim.Native.Nat.{ℕ, zero, suc, _+_, _-_, _<_, _≤_}
+use Prim.Native.Nat.{ℕ, _+_, _-_, _<_, _≤_}
 use native.Mathlib.Omega.{arith}
 use native.Mathlib.Decide.{decLt}
-use mathlib.Core.Path.{_≡_, refl, sym, ap, _∙_, subst}
+use mathlib.Core.Path.{_≡_, refl, _∙_}
 use mathlib.Core.Logic.{inl, inr}
-use mathlib.Core.Bool.{Bool, true, false, true≢false, _&&_}
+use mathlib.Core.Bool.{Bool, true, false}
 use mathlib.Core.List.{List}
-use lib.Dec.{eqb, leb, ltb}
-use lib.IntN.{ℤ}
+use lib.Dec.{eqb}
 use lib.ListN.{length, getD, set, replicate, length-set, length-replicate}
 use lib.Seq.{getD-set-same, getD-set-other}
-use borrow.Author.Tests.{eqb-true, eqb-false, eq-eqb, le-leb, lt-leb, lt-ltb, leb-false}
+use borrow.Author.Tests.{eqb-false, eq-eqb, le-leb, lt-ltb}
 use Rattle.words.specs.Word.{pick}
-use Rattle.words.specs.declared.Word.{Word}
-use Rattle.words.proofs.Bools.{picked, either}
+use Rattle.words.proofs.Bools.{picked}
 use Rattle.wire.specs.declared.Command.{Command}
 use Rattle.store.specs.Store.{recordAt}
 use Rattle.registers.specs.Registers.{nextAddress}
-use Rattle.stack.specs.Stack.{emptied, pushed, popped, stack, taken}
-use Rattle.stack.specs.declared.Stack.{Stack}
-use Rattle.stack.specs.declared.Popped.{Popped}
+use Rattle.stack.specs.Stack.{pushed, popped, stack}
 use Rattle.jumping.specs.Jump.{addressOf}
-use Rattle.status.specs.Status.{isDone, isUnknown}
-use Rattle.status.specs.declared.Status.{Status}
-use Rattle.status.specs.declared.Status.the-variants.{Done, Unknown, Value, Unavailable}
+use Rattle.status.specs.Status.{isDone}
+use Rattle.status.specs.declared.Status.the-variants.{Done}
 use Rattle.status.proofs.Statuses.{is-done, not-done}
 use Rattle.points.specs.Points.{point}
 use Rattle.points.specs.Reach.{Leads, Reach, Safe}
 use Rattle.points.specs.declared.Point.{Point}
 use Rattle.points.specs.declared.Way.{Way}
-use Rattle.points.specs.declared.Way.the-variants.{Bad, Nowhere, To, Both}
-use Rattle.judge.specs.Judge.{judged, isFlow, isReading}
+use Rattle.points.specs.declared.Way.the-variants.{To, Both}
 use Rattle.leading.specs.Leading as leading
-use Rattle.leading.specs.Leading.{byDepth, statusAt, onward, unlessBad, wayAt, target}
+use Rattle.leading.specs.Leading.{statusAt, onward, wayAt, target}
 use Rattle.leading.proofs.Ways as ways
 use Rattle.leading.proofs.Ways.{Through, not-bad, call-room, return-entry, reached-in}
 

@@ -4,34 +4,29 @@ use native.Mathlib.Omega.{arith}
 use mathlib.Core.Path.{_≡_, refl, sym, ap, _∙_, subst}
 use mathlib.Core.Bool.{Bool, true, false, true≢false, false≢true, _||_}
 use mathlib.Core.List.{List}
-use lib.Dec.{eqb, leb}
-use lib.IntN.{ℤ}
+use lib.Dec.{eqb}
 use borrow.Author.Tests.{eqb-true, ne-eqb, lt-leb}
 use Rattle.words.specs.Word.{pick}
-use Rattle.words.specs.declared.Word.{Word}
 use Rattle.words.proofs.Bools.{or-else, picked, either}
 use Rattle.wire.specs.declared.Command.{Command}
 use Rattle.store.specs.Store.{recordAt}
-use Rattle.registers.specs.Registers.{next, moved, withDepth, nextAddress}
+use Rattle.registers.specs.Registers.{nextAddress}
 use Rattle.registers.specs.declared.Core.{Core}
-use Rattle.stack.specs.Stack.{pushed, popped}
-use Rattle.jumping.specs.Jump.{addressOf}
 use Rattle.jumping.specs.Jump as jumping
 use Rattle.waiting.specs.Waiting.{waited}
 use Rattle.waiting.specs.declared.Waited.{Waited}
 use Rattle.waiting.specs.declared.Waited.the-variants.{Refused, Passed, TimedOut, Holding}
 use Rattle.status.specs.Status.{isDone, isUnknown}
 use Rattle.status.specs.declared.Status.{Status}
-use Rattle.status.specs.declared.Status.the-variants.{Done, Unknown, Value, Locked, Unavailable}
+use Rattle.status.specs.declared.Status.the-variants.{Done}
 use Rattle.points.specs.Reach.{Safe}
 use Rattle.judge.specs.Judge.{judged, isFlow, isReading}
-use Rattle.effects.specs.Effects.{Work, applied, changed}
+use Rattle.effects.specs.Effects.{changed}
 use Rattle.effects.specs.declared.Effect.{Effect}
 use Rattle.effects.specs.declared.Effect.the-variants as effect
 use Rattle.deciding.specs.Deciding.{decided, worked}
-use Rattle.flow.specs.Flow.{Flow, flow, at, jumped, called, returned, halted, afterWait, waitedStep, flowed}
+use Rattle.flow.specs.Flow.{Flow, flow, jumped, called, returned, halted, afterWait, waitedStep, flowed}
 use Rattle.flow.specs.Flow as flow
-use Rattle.flow.specs.declared.Flowed.{Flowed}
 use Rattle.stepping.specs.Step.{State, Pins, After, after, only, loaded, afterFlow, afterWork, carried, obeyed, step}
 use Rattle.running.specs.Run.{Progress, begun, advanced}
 use Rattle.running.specs.Laws.{walked}

@@ -12,7 +12,7 @@ use Rattle.words.proofs.Bools.{either}
 use Rattle.status.specs.declared.Status.{Status}
 use Rattle.status.specs.declared.Status.the-variants.{Done}
 use Rattle.points.specs.Points.{numberOf, pointAt}
-use Rattle.points.specs.Reach.{Leads, Reach, Safe, Lowest}
+use Rattle.points.specs.Reach.{Leads, Reach}
 use Rattle.points.specs.declared.Point.{Point}
 use Rattle.points.specs.declared.Way.{Way}
 use Rattle.points.specs.declared.Way.the-variants.{Bad, Nowhere, To, Both}

@@ -8,7 +8,6 @@ use lib.ListN.{replicate}
 use Rattle.words.specs.Word.{word}
 use Rattle.values.specs.Examples.{defaultCells}
 use Rattle.status.specs.Status.{numberOf}
-use Rattle.sampling.specs.declared.Sample.{Sample}
 use Rattle.stepping.specs.Step.{State, Pins, step}
 use Rattle.board.specs.Registers.{unpowered}
 use Rattle.board.specs.Step.{stateOf, pinsOf}

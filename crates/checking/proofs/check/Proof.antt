@@ -5,19 +5,6 @@ use mathlib.Core.Path.{refl}
 use Rattle.checking.proofs.Verdicts.{refused-by, passed-by}
 use Rattle.checking.proofs.check.Statement.{statement}
 use Rattle.checking.proofs.check.Tie as tie
-use Rattle.checking.proofs.check.Reads as reads
-use Rattle.checking.proofs.check.Lts as lts
-use Rattle.points.proofs.Point.numbered.Reads as numbered-reads
-use Rattle.walking.proofs.lowest.Reads as lowest-reads
-
-returns : tie.Need-returns
-returns c = search needs
-
-lowest-requires : tie.Need-lowest-requires
-lowest-requires c κs = search needs
-
-numbered-requires : tie.Need-numbered-requires
-numbered-requires c κs = search needs
 
 returns-2 : tie.Need-returns-2
 returns-2 c =
@@ -30,4 +17,4 @@ returns-3 c =
     ((omega arith, passed-by _ (l .result) (l .ensures) (c .if2 .left)), refl)
 
 pub check-spec : {M : Type 1} → statement M
-check-spec = tie.close (tie.spec returns lowest-requires numbered-requires returns-2 returns-3)
+check-spec = tie.close (tie.spec (λ c. search needs) (λ c κs. search needs) (λ c κs. search needs) returns-2 returns-3)

@@ -3,35 +3,10 @@ use borrow.Author.Needs.{needs}
 use Rattle.leading.specs.Leading.{recordStatus, statusAt, wayAt}
 use Rattle.leading.proofs.way_at.Statement.{statement}
 use Rattle.leading.proofs.way_at.Tie as tie
-use Rattle.leading.proofs.way_at.Reads as reads
-use Rattle.leading.proofs.way_at.Lts as lts
-use Rattle.judge.proofs.judge.Reads as judge-reads
-use Rattle.leading.proofs.way_of.Reads as way-of-reads
-use Rattle.points.proofs.Point.is_end.Reads as is-end-reads
-use Rattle.status.proofs.Status.is_done.Reads as is-done-reads
-use Rattle.store.proofs.record_at.Reads as record-at-reads
-
-is-end-requires : tie.Need-is-end-requires
-is-end-requires c κs = search needs
 
 returns : tie.Need-returns
 unfolding wayAt statusAt
 returns c = simp (← c .before .is-end .ensures, c .if1 .taken)
-
-cast-record-at : tie.Need-cast-record-at
-cast-record-at c = search needs
-
-record-at-requires : tie.Need-record-at-requires
-record-at-requires c κs = search needs
-
-judge-requires : tie.Need-judge-requires
-judge-requires c κs = search needs
-
-is-done-requires : tie.Need-is-done-requires
-is-done-requires c κs = search needs
-
-way-of-requires : tie.Need-way-of-requires
-way-of-requires c κs = search needs
 
 returns-2 : tie.Need-returns-2
 unfolding wayAt statusAt recordStatus
@@ -54,12 +29,12 @@ pub way-at-spec : {M : Type 1} → statement M
 way-at-spec =
     tie.close
     (tie.spec
-    is-end-requires
+    (λ c κs. search needs)
     returns
-    cast-record-at
-    record-at-requires
-    judge-requires
-    is-done-requires
-    way-of-requires
+    (λ c. search needs)
+    (λ c κs. search needs)
+    (λ c κs. search needs)
+    (λ c κs. search needs)
+    (λ c κs. search needs)
     returns-2
     returns-3)

@@ -6,20 +6,6 @@ use borrow.Author.Tests.{eq-eqb, ne-eqb, leb-false}
 use Rattle.leading.specs.Leading.{byDepth, onward}
 use Rattle.leading.proofs.way_of.Statement.{statement}
 use Rattle.leading.proofs.way_of.Tie as tie
-use Rattle.leading.proofs.way_of.Reads as reads
-use Rattle.leading.proofs.way_of.Lts as lts
-use Rattle.points.proofs.Point.is_deepest.Reads as is-deepest-reads
-use Rattle.jumping.proofs.address_of.Reads as address-of-reads
-use Rattle.registers.proofs.next_address.Reads as next-address-reads
-
-next-address-requires : tie.Need-next-address-requires
-next-address-requires c κs = search needs
-
-address-of-requires : tie.Need-address-of-requires
-address-of-requires c κs = search needs
-
-is-deepest-requires : tie.Need-is-deepest-requires
-is-deepest-requires c κs = search needs
 
 add-t12 : tie.Need-add-t12
 add-t12 c =
@@ -79,4 +65,4 @@ returns-8 c =
 pub way-of-spec : {M : Type 1} → statement M
 way-of-spec =
     tie.close
-    (tie.spec next-address-requires address-of-requires is-deepest-requires returns add-t12 returns-2 returns-3 returns-4 returns-5 returns-6 returns-7 returns-8)
+    (tie.spec (λ c κs. search needs) (λ c κs. search needs) (λ c κs. search needs) returns add-t12 returns-2 returns-3 returns-4 returns-5 returns-6 returns-7 returns-8)

@@ -2,7 +2,7 @@
 use borrow.Author.Needs.{needs}
 use Prim.Native.Nat.{_-_}
 use native.Mathlib.Omega.{arith}
-use mathlib.Core.Path.{_≡_, sym, ap, _∙_, subst}
+use mathlib.Core.Path.{sym, ap, _∙_, subst}
 use Rattle.points.proofs.Numbers.{is-point}
 use Rattle.leading.specs.Leading.{wayAt}
 use Rattle.walking.specs.Walk.{walk, EndsIn}
@@ -11,13 +11,6 @@ use Rattle.walking.proofs.Points.{ways-in}
 use Rattle.walking.proofs.Scan.{Going, begin, turned, finished, blank-room}
 use Rattle.walking.proofs.look.Statement.{statement}
 use Rattle.walking.proofs.look.Tie as tie
-use Rattle.walking.proofs.look.Reads as reads
-use Rattle.walking.proofs.look.Lts as lts
-use Rattle.leading.proofs.way_at.Reads as way-at-reads
-use Rattle.points.proofs.Point.numbered.Reads as numbered-reads
-use Rattle.walking.proofs.begin.Reads as begin-reads
-use Rattle.walking.proofs.note.Reads as note-reads
-use Rattle.walking.proofs.spread.Reads as spread-reads
 
 abbrev Inv-loop : tie.InvT-loop
 Inv-loop program marks₀ queue₀ found₀ n₀ h₀ marks queue found n h = Going (wayAt program) (walk marks queue n) h found

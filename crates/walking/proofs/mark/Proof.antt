@@ -6,17 +6,6 @@ use Rattle.walking.specs.Walk.{marked}
 use Rattle.walking.proofs.Closure.{room-for}
 use Rattle.walking.proofs.mark.Statement.{statement}
 use Rattle.walking.proofs.mark.Tie as tie
-use Rattle.walking.proofs.mark.Reads as reads
-use Rattle.walking.proofs.mark.Lts as lts
-
-element-copy-out-if1 : tie.Need-element-copy-out-if1
-element-copy-out-if1 c = search needs
-
-element-write-marks : tie.Need-element-write-marks
-element-write-marks c = search needs
-
-cast-queue : tie.Need-cast-queue
-cast-queue c = search needs
 
 mul-queue : tie.Need-mul-queue
 mul-queue c = omega (arith, room-for 9225 _ _ (c .before .before .pre .1) (c .before .before .pre .0) (c .if1 .taken))
@@ -39,9 +28,9 @@ pub mark-spec : {M : Type 1} → statement M
 mark-spec =
     tie.close
     (tie.spec
-    element-copy-out-if1
-    element-write-marks
-    cast-queue
+    (λ c. search needs)
+    (λ c. search needs)
+    (λ c. search needs)
     mul-queue
     element-write-queue
     add-result

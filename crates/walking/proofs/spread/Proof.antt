@@ -8,22 +8,6 @@ use Rattle.walking.specs.Walk.{EndsIn}
 use Rattle.walking.proofs.Closure.{room-after, then}
 use Rattle.walking.proofs.spread.Statement.{statement}
 use Rattle.walking.proofs.spread.Tie as tie
-use Rattle.walking.proofs.spread.Reads as reads
-use Rattle.walking.proofs.spread.Lts as lts
-use Rattle.points.proofs.Point.number.Reads as number-reads
-use Rattle.walking.proofs.mark.Reads as mark-reads
-
-enum-told : tie.Need-enum-told
-enum-told c = search needs
-
-enum-told-2 : tie.Need-enum-told-2
-enum-told-2 c = search needs
-
-enum-known-way : tie.Need-enum-known-way
-enum-known-way c = search needs
-
-number-requires : tie.Need-number-requires
-number-requires c κs = search needs
 
 mark-requires : tie.Need-mark-requires
 mark-requires c κs =
@@ -31,20 +15,11 @@ mark-requires c κs =
     let q = subst EndsIn (d .way .given .1) (d .before .before .pre .0) .within _ refl in
     (omega (arith, c .number .ensures, number-low (d .way .given .0 .0) q), d .before .before .pre .1)
 
-enum-known-way-2 : tie.Need-enum-known-way-2
-enum-known-way-2 c = search needs
-
-number-requires-2 : tie.Need-number-requires-2
-number-requires-2 c κs = search needs
-
 mark-requires-2 : tie.Need-mark-requires-2
 mark-requires-2 c κs =
     let d = c .before .before .before .before in
     let q = subst EndsIn (d .way2 .given .1) (d .before .before .pre .0) .within _ (inl refl) in
     (omega (arith, c .number2 .ensures, number-low (d .way2 .given .0 .0) q), d .before .before .pre .1)
-
-number-requires-3 : tie.Need-number-requires-3
-number-requires-3 c κs = search needs
 
 mark-requires-3 : tie.Need-mark-requires-3
 mark-requires-3 c κs =
@@ -73,15 +48,15 @@ pub spread-spec : {M : Type 1} → statement M
 spread-spec =
     tie.close
     (tie.spec
-    enum-told
-    enum-told-2
-    enum-known-way
-    number-requires
+    (λ c. search needs)
+    (λ c. search needs)
+    (λ c. search needs)
+    (λ c κs. search needs)
     mark-requires
-    enum-known-way-2
-    number-requires-2
+    (λ c. search needs)
+    (λ c κs. search needs)
     mark-requires-2
-    number-requires-3
+    (λ c κs. search needs)
     mark-requires-3
     returns
     returns-2

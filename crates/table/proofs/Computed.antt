@@ -87,13 +87,17 @@ examples =
       called-steps = refl;
       called-status = refl;
       called-stopped = refl;
+      called-cell = refl;
       called-accumulator = refl;
       called-short = refl;
       held-steps = refl;
       held-status = refl;
       held-address = refl;
+      held-running = refl;
       held-count = refl;
       no-step = refl;
       unknown-status = refl;
       unknown-steps = refl;
+      unknown-address = refl;
+      unknown-stopped = refl;
     }

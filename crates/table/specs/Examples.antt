@@ -5,6 +5,7 @@ use mathlib.Core.Bool.{true, false}
 use mathlib.Core.List.{List, [], _∷_}
 use lib.IntN.{pos, negsuc}
 use Rattle.words.specs.Word.{word}
+use Rattle.store.specs.Store.{cellAt}
 use Rattle.values.specs.Examples.{defaultCells}
 use Rattle.running.specs.Run.{Progress, run}
 use Rattle.running.specs.Run as running
@@ -56,15 +57,19 @@ pub record Examples : Type 0 where
   pub called-steps : ran calling 1000 .steps ≡ 6
   pub called-status : numberOf (ran calling 1000 .status) ≡ 100
   pub called-stopped : ran calling 1000 .state .core .running ≡ false
+  pub called-cell : cellAt (ran calling 1000 .state .store) 35 ≡ word (pos 515)
   pub called-accumulator : ran calling 1000 .state .core .accumulator ≡ word (pos 7)
   pub called-short : ran calling 5 .state .core .running ≡ true
   -- a WAIT of one tick holds: two steps, the second counted, status 100, still running at address 1
   pub held-steps : ran waiting 1000 .steps ≡ 2
   pub held-status : numberOf (ran waiting 1000 .status) ≡ 100
   pub held-address : ran waiting 1000 .state .core .address ≡ 1
+  pub held-running : ran waiting 1000 .state .core .running ≡ true
   pub held-count : ran waiting 1000 .state .core .wait .count ≡ 1
   -- no step: 100
   pub no-step : numberOf (ran waiting 0 .status) ≡ 100
   -- an unknown record stops the program at its address with 2
   pub unknown-status : numberOf (ran (0 ∷ 0 ∷ 0 ∷ 0 ∷ 0 ∷ 0 ∷ 0 ∷ []) 9 .status) ≡ 2
   pub unknown-steps : ran (0 ∷ 0 ∷ 0 ∷ 0 ∷ 0 ∷ 0 ∷ 0 ∷ []) 9 .steps ≡ 1
+  pub unknown-address : ran (0 ∷ 0 ∷ 0 ∷ 0 ∷ 0 ∷ 0 ∷ 0 ∷ []) 9 .state .core .address ≡ 0
+  pub unknown-stopped : ran (0 ∷ 0 ∷ 0 ∷ 0 ∷ 0 ∷ 0 ∷ 0 ∷ []) 9 .state .core .running ≡ false

@@ -26,7 +26,7 @@ use Rattle.fields.specs.Fields as fields-fields
 use Rattle.judge.specs.Judge as judge-judge
 use Rattle.leading.specs.Leading as leading-leading
 use Rattle.witnesses.specs.Checks.{Checks}
-use Rattle.witnesses.specs.Programs.{working, refusing, untaken, deepening, twice, notOnSheet, falling}
+use Rattle.witnesses.specs.Programs.{working, refusing, untaken, deepening, twice, wrongValue, wrongMotor, notOnSheet, falling}
 
 -- ---- the points that each program reaches, and a way to the bad one
 abbrev working-points : List Point
@@ -53,6 +53,18 @@ twice-points = point 0 0 ∷ point 1 0 ∷ point 3 0 ∷ point 4 0 ∷ []
 abbrev twice-way : List Point
 twice-way = point 1 0 ∷ point 3 0 ∷ []
 
+abbrev value-points : List Point
+value-points = point 0 0 ∷ []
+
+abbrev value-way : List Point
+value-way = []
+
+abbrev motor-points : List Point
+motor-points = point 0 0 ∷ []
+
+abbrev motor-way : List Point
+motor-way = []
+
 abbrev sheet-points : List Point
 sheet-points = point 0 0 ∷ []
 
@@ -78,6 +90,12 @@ record Computed : Type 0 where
   twice-certified : certifies (wayAt twice) (notAfter (point 3 0)) twice-points ≡ true
   twice-goes : goes (wayAt twice) first twice-way ≡ true
   twice-bad : wayAt twice (point 3 0) ≡ Bad Unavailable
+  value-certified : certifies (wayAt wrongValue) (notAfter (point 0 0)) value-points ≡ true
+  value-goes : goes (wayAt wrongValue) first value-way ≡ true
+  value-bad : wayAt wrongValue (point 0 0) ≡ Bad Value
+  motor-certified : certifies (wayAt wrongMotor) (notAfter (point 0 0)) motor-points ≡ true
+  motor-goes : goes (wayAt wrongMotor) first motor-way ≡ true
+  motor-bad : wayAt wrongMotor (point 0 0) ≡ Bad Value
   sheet-certified : certifies (wayAt notOnSheet) (notAfter (point 0 0)) sheet-points ≡ true
   sheet-goes : goes (wayAt notOnSheet) first sheet-way ≡ true
   sheet-bad : wayAt notOnSheet (point 0 0) ≡ Bad Kind
@@ -100,6 +118,12 @@ computed =
       twice-certified = refl;
       twice-goes = refl;
       twice-bad = refl;
+      value-certified = refl;
+      value-goes = refl;
+      value-bad = refl;
+      motor-certified = refl;
+      motor-goes = refl;
+      motor-bad = refl;
       sheet-certified = refl;
       sheet-goes = refl;
       sheet-bad = refl;
@@ -130,6 +154,16 @@ twice-lowest =
     lowest-by (wayAt twice) (point 3 0) Unavailable twice-points (computed .twice-certified)
     (reached-by (wayAt twice) first twice-way Reach.begin (computed .twice-goes)) (computed .twice-bad)
 
+pub value-lowest : Lowest (wayAt wrongValue) (point 0 0) Value
+value-lowest =
+    lowest-by (wayAt wrongValue) (point 0 0) Value value-points (computed .value-certified)
+    (reached-by (wayAt wrongValue) first value-way Reach.begin (computed .value-goes)) (computed .value-bad)
+
+pub motor-lowest : Lowest (wayAt wrongMotor) (point 0 0) Value
+motor-lowest =
+    lowest-by (wayAt wrongMotor) (point 0 0) Value motor-points (computed .motor-certified)
+    (reached-by (wayAt wrongMotor) first motor-way Reach.begin (computed .motor-goes)) (computed .motor-bad)
+
 pub sheet-lowest : Lowest (wayAt notOnSheet) (point 0 0) Kind
 sheet-lowest =
     lowest-by (wayAt notOnSheet) (point 0 0) Kind sheet-points (computed .sheet-certified)
@@ -151,6 +185,8 @@ checks =
       untaken-refused = ((refl, untaken-lowest), refl);
       deepening-refused = ((refl, deepening-lowest), refl);
       twice-refused = ((refl, twice-lowest), refl);
+      wrong-value-refused = ((refl, value-lowest), refl);
+      wrong-motor-refused = ((refl, motor-lowest), refl);
       not-on-sheet-refused = ((refl, sheet-lowest), refl);
       falling-refused = ((refl, falling-lowest), refl);
       short-refused = (not-short, refl);

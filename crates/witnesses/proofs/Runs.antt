@@ -54,7 +54,7 @@ use Rattle.safety.specs.Listed as safety-listed
 use Rattle.safety.specs.Events.{World, Event, after, runsFromAnother, Quiet, MakesStep}
 use Rattle.safety.proofs.Records.{records-kept}
 use Rattle.witnesses.specs.Programs.{working}
-use Rattle.witnesses.specs.Runs.{damaged, notOurs, oneStep, runFromZero, run, badSample, tick, powerUp, onBoard, Runs}
+use Rattle.witnesses.specs.Runs.{damaged, notOurs, oneStep, runFromZero, run, sample, tick, powerUp, onBoard, Runs}
 
 -- ---- events that no datagram is among write no record and name no address, whatever the board
 quiet-run : (w : World) → Quiet w (run ∷ tick ∷ tick ∷ run ∷ tick ∷ run ∷ [])
@@ -62,10 +62,10 @@ unfolding after runsFromAnother
 quiet-run w =
     Quiet.also refl refl (Quiet.also refl refl (Quiet.also refl refl (Quiet.also refl refl (Quiet.also refl refl (Quiet.also refl refl Quiet.none)))))
 
-quiet-rest : (w : World) → Quiet w (run ∷ badSample ∷ tick ∷ powerUp ∷ run ∷ [])
+quiet-rest : (w : World) → Quiet w (run ∷ sample 1 ∷ sample 2 ∷ tick ∷ powerUp ∷ run ∷ [])
 unfolding after runsFromAnother
 quiet-rest w =
-    Quiet.also refl refl (Quiet.also refl refl (Quiet.also refl refl (Quiet.also refl refl (Quiet.also refl refl Quiet.none))))
+    Quiet.also refl refl (Quiet.also refl refl (Quiet.also refl refl (Quiet.also refl refl (Quiet.also refl refl (Quiet.also refl refl Quiet.none)))))
 
 -- ---- the boards between the datagrams of a row: none is in download mode, and no datagram names another address
 abbrev once : World
@@ -100,7 +100,7 @@ row =
       fourth = record { no-download = refl; no-address = refl };
     }
 
-quiet : Quiet once (damaged ∷ notOurs ∷ oneStep ∷ runFromZero ∷ run ∷ badSample ∷ tick ∷ powerUp ∷ run ∷ [])
+quiet : Quiet once (damaged ∷ notOurs ∷ oneStep ∷ runFromZero ∷ run ∷ sample 1 ∷ sample 2 ∷ tick ∷ powerUp ∷ run ∷ [])
 quiet =
     Quiet.also (records-kept once damaged (row .first .no-download)) (row .first .no-address)
     (Quiet.also (records-kept twice notOurs (row .second .no-download)) (row .second .no-address)

@@ -99,7 +99,7 @@ deepening =
     )
 
 -- ---- bad points of other kinds
--- 0: JC ZE, 4; 1: JA 3; 3: RSUB, with no call; 4: SAP 93, -32769, which a walk meets first
+-- 0: JC ZE, 4; 1: JA 3; 2: zeros, which nothing leads to; 3: RSUB, with no call; 4: SAP 93, -32769, which a walk meets first
 abbrev pub twice : List ℕ
 twice =
     program (
@@ -110,6 +110,14 @@ twice =
     ∷ command 5 93 0 (negsuc 32768)
     ∷ []
     )
+
+-- 0: SAP 93, -32769, and no other
+abbrev pub wrongValue : List ℕ
+wrongValue = program (command 5 93 0 (negsuc 32768) ∷ [])
+
+-- 0: MST with motor 1
+abbrev pub wrongMotor : List ℕ
+wrongMotor = program (command 3 0 1 (pos 0) ∷ [])
 
 -- 0: GAP 4, which the sheet does not have
 abbrev pub notOnSheet : List ℕ

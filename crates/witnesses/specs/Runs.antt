@@ -37,9 +37,9 @@ restart = datagram (1 ∷ 255 ∷ 0 ∷ 0 ∷ 0 ∷ 0 ∷ 4 ∷ 210 ∷ 214 ∷ 
 abbrev pub oneStep : Event
 oneStep = datagram (1 ∷ 130 ∷ 0 ∷ 0 ∷ 0 ∷ 0 ∷ 0 ∷ 0 ∷ 131 ∷ [])
 
--- the same with a wrong checksum, and to another address
+-- 131 with a wrong checksum, and 130 to another address
 abbrev pub damaged : Event
-damaged = datagram (1 ∷ 130 ∷ 0 ∷ 0 ∷ 0 ∷ 0 ∷ 0 ∷ 0 ∷ 130 ∷ [])
+damaged = datagram (1 ∷ 131 ∷ 0 ∷ 0 ∷ 0 ∷ 0 ∷ 0 ∷ 0 ∷ 131 ∷ [])
 
 abbrev pub notOurs : Event
 notOurs = datagram (2 ∷ 130 ∷ 0 ∷ 0 ∷ 0 ∷ 0 ∷ 0 ∷ 0 ∷ 132 ∷ [])
@@ -50,16 +50,16 @@ run = events.run 1000 defaultCells
 abbrev pub tick : Event
 tick = events.tick
 
--- a sample with a field out of range, which is refused
-abbrev pub badSample : Event
-badSample =
+-- a sample, by its reached flag
+abbrev pub sample : ℕ → Event
+sample reached =
     events.sample (
     record {
       readings =
           record {
             «ramp_position» = pos 0;
             «actual_position» = pos 0;
-            reached = pos 2;
+            reached = pos reached;
             right = pos 0;
             left = pos 0;
             home = pos 0;
@@ -113,12 +113,12 @@ pub record Runs : Type 0 where
   pub run-begins : beginsProgram (onBoard working) runFromZero ≡ true
   pub reset-begins : beginsProgram (onBoard working) reset ≡ true
   pub restart-begins : beginsProgram (onBoard working) restart ≡ true
-  -- and what begins nothing
+  -- and a reset that is not carried out begins nothing
   pub damaged-not : beginsProgram (onBoard working) damaged ≡ false
   -- ---- a step of 130 is one that the promise speaks of
   pub alone : MakesStep (onBoard working) oneStep (stateOf (onBoard working .registers) defaultCells)
-  -- ---- quiet events of every kind
-  pub quiet : Quiet (onBoard working) (damaged ∷ notOurs ∷ oneStep ∷ runFromZero ∷ run ∷ badSample ∷ tick ∷ powerUp ∷ run ∷ [])
+  -- ---- quiet events of every kind: a datagram damaged, not ours, of 130 and of 129, a sample taken and one refused
+  pub quiet : Quiet (onBoard working) (damaged ∷ notOurs ∷ oneStep ∷ runFromZero ∷ run ∷ sample 1 ∷ sample 2 ∷ tick ∷ powerUp ∷ run ∷ [])
   -- ---- `working` is held by a wait for two ticks in the inner call, by one for one tick in the outer, and ended by STOP
   pub working-quiet : Quiet (begun working) (run ∷ tick ∷ tick ∷ run ∷ tick ∷ run ∷ [])
   pub working-1 : ran (begun working) ≡ answered 4 100

@@ -1,4 +1,4 @@
--- "The program check passes a stored program exactly when no bad point is reachable from address 0"; "A refusal names the reachable bad
+-- The program check passes a stored program exactly when no bad point is reachable from address 0 (demand 3). "A refusal names the reachable bad
 -- point of lowest address, then lowest depth, and its status by the order above."
 use Prim.Native.Nat.{ℕ}
 use mathlib.Core.Path.{_≡_}

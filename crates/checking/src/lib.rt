@@ -22,6 +22,7 @@ pub struct Answer {
 }
 
 impl Verdict {
+    // For a caller that hands numbers on.
     pub fn answer(self) -> Answer
         ensures { λ r. ⌜ r ≡ answerOf self ⌝ }
     {

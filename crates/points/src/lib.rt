@@ -12,7 +12,7 @@ pub struct Point {
 
 // Where a point leads.
 pub enum Way {
-    // The point is bad, and this is the status of its record.
+    // The point is bad, with this status.
     Bad(Status),
     Nowhere,
     To(Point),

@@ -1,6 +1,6 @@
--- "A passed program begun at 0, while its records are not written and no command runs it from another named address, under all other
--- commands, samples and ticks never meets an unknown command, never leaves program memory, never has a jump, call or return ignored;
--- its only refusals are those on 01's list of things known only while running."
+-- Demand 3 of the product: a passed program begun at 0, while its records are not written and no command runs it from another named
+-- address, under all other commands, samples and ticks never meets an unknown command, never leaves program memory, never has a jump,
+-- call or return ignored; its only refusals are those on 01's list of things known only while running.
 use Prim.Native.Nat.{ℕ, _<_}
 use mathlib.Core.Path.{_≡_}
 use mathlib.Core.Bool.{Bool, true, _||_}
@@ -22,13 +22,13 @@ abbrev pub turns : ℕ → Bool
 turns n = eqb n 21 || eqb n 22 || eqb n 23 || eqb n 24
 
 pub record Fine (program : List ℕ) (p : Pins) (x : State) : Type 0 where
-  -- "never leaves program memory"
+  -- it never leaves program memory
   pub inside : x .core .address < 1024
-  -- "never meets an unknown command"
+  -- it never meets an unknown command
   pub known : step program p x .status ≡ Unknown → ⊥
-  -- "never has a jump, call or return ignored"
+  -- it never has a jump, call or return ignored
   pub obeyed : turns (recordAt program (x .core .address) .number) ≡ true → step program p x .status ≡ Done
-  -- "its only refusals are those on 01's list"
+  -- its only refusals are those on 01's list
   pub listed : Listed (recordAt program (x .core .address)) (step program p x .status)
 
 pub record Safety : Type 0 where

@@ -11,7 +11,7 @@ use points::Point;
 use points::Way;
 use status::Status;
 
-// 1,025 addresses with nine depths each.
+// 1,025 addresses with nine depths each; `Found::NONE` is the same number.
 const POINTS: usize = 9225;
 
 // The lowest bad point by its number, and its status.
@@ -25,7 +25,8 @@ impl Found {
     pub const NONE: u16 = 9225;
 }
 
-// Marks a point, unless it is marked, and puts it at the end of the queue.
+// Marks the point of number i, unless it is marked, and puts it at the end of the queue, which holds n. It
+// answers how many are in the queue then, as `spread` and `begin` do.
 fn mark(marks: &mut [u8; POINTS], queue: &mut [u16; POINTS], n: usize, i: usize) -> usize
     requires { ⌜ (i < 9225) × Room 9225 (walk (now marks) (now queue) n) ⌝ }
     ensures { λ r. ⌜ walk (now (marks .exit)) (now (queue .exit)) r ≡ marked (walk (now (marks .entry)) (now (queue .entry)) n) i ⌝ }
@@ -83,7 +84,7 @@ fn note(found: Found, i: u16, way: Way) -> Found
     }
 }
 
-// Looks at every point that is reached, in the order of the queue.
+// Looks at every point that is reached, in the order of the queue; h of them have been looked at.
 fn look(program: &[u8], marks: &mut [u8; POINTS], queue: &mut [u16; POINTS]) -> Found
     requires { ⌜ Blank (now marks) (now queue) ⌝ }
     ensures { λ r. ⌜ FoundIn (wayAt (now (program .entry))) r ⌝ }
@@ -104,7 +105,7 @@ fn look(program: &[u8], marks: &mut [u8; POINTS], queue: &mut [u16; POINTS]) -> 
     found
 }
 
-// The lowest bad point that a program reaches.
+// The lowest bad point that a program reaches; `NONE` with status done where it reaches none.
 pub fn lowest(program: &[u8]) -> Found
     ensures { λ r. ⌜ FoundIn (wayAt (now (program .entry))) r ⌝ }
 {

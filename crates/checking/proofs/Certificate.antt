@@ -13,6 +13,7 @@ use Rattle.points.specs.Reach.{Leads, Reach, Safe, Lowest}
 use Rattle.points.specs.declared.Point.{Point}
 use Rattle.points.specs.declared.Way.{Way}
 use Rattle.points.specs.declared.Way.the-variants.{Bad, Nowhere, To, Both}
+use Rattle.points.proofs.Ways.{isBad}
 
 -- ---- the tests
 abbrev pub samePoint : Point → Point → Bool
@@ -31,12 +32,6 @@ leadsInto s (Both a b) = has s a && has s b
 
 abbrev pub notAfter : Point → Point → Bool
 notAfter p q = ltb (p .address) (q .address) || (eqb (p .address) (q .address) && leb (p .depth) (q .depth))
-
-abbrev pub isBad : Way → Bool
-isBad (Bad t) = true
-isBad Nowhere = false
-isBad (To a) = false
-isBad (Both a b) = false
 
 unfoldable pub closed : (Point → Way) → (Point → Bool) → List Point → List Point → Bool
 closed way may s [] = true

@@ -23,16 +23,11 @@ use Rattle.points.specs.Reach.{Leads, Reach}
 use Rattle.points.specs.declared.Point.{Point}
 use Rattle.points.specs.declared.Way.{Way}
 use Rattle.points.specs.declared.Way.the-variants.{Bad, Nowhere, To, Both}
+use Rattle.points.proofs.Ways.{isBad, all-points}
 use Rattle.leading.specs.Leading.{byDepth, recordStatus, statusAt, next, target, onward, unlessBad, wayAt}
 use Rattle.leading.specs.Laws.{Laws}
 
 -- ---- ways that are not bad
-abbrev isBad : Way → Bool
-isBad (Bad s) = true
-isBad Nowhere = false
-isBad (To a) = false
-isBad (Both a b) = false
-
 onward-not-bad : (r : Command) (p : Point) → isBad (onward r p) ≡ false
 unfolding onward
 onward-not-bad r p =
@@ -141,8 +136,7 @@ module _ (program : List ℕ) where
       onward-in r p q v (not-bad program p (t .0) .depth) (t .1)
 
   pub reached-in : {p : Point} → Reach (wayAt program) p → IsPoint p
-  reached-in Reach.begin = record { address = omega arith; depth = omega arith }
-  reached-in (Reach.onward {p} {q} r l) = leads-in p q (reached-in r) l
+  reached-in r = all-points (wayAt program) leads-in r
 
 pub laws : Laws
 laws =

@@ -10,6 +10,7 @@ use Rattle.points.specs.declared.Point.{Point}
 use Rattle.points.specs.declared.Way.{Way}
 use Rattle.points.specs.declared.Way.the-variants.{Bad, Nowhere, To, Both}
 use Rattle.points.proofs.Numbers.{number-low, is-point, point-number}
+use Rattle.points.proofs.Ways.{all-points}
 use Rattle.leading.specs.Leading.{wayAt}
 use Rattle.leading.proofs.Ways.{leads-in}
 use Rattle.walking.specs.Walk.{ends, EndsIn}
@@ -33,8 +34,7 @@ Good way = (p : Point) → IsPoint p → EndsIn (way p)
 
 module _ (way : Point → Way) (ok : Good way) where
   pub reached-in : {p : Point} → Reach way p → IsPoint p
-  reached-in Reach.begin = record { address = omega arith; depth = omega arith }
-  reached-in (Reach.onward {p} r l) = ok p (reached-in r) .within _ l
+  reached-in r = all-points way (λ p q v l. ok p v .within q l) r
 
   pub onward : (i j : ℕ) → i < 9225 → Reach way (pointAt i) → In j (ends (way (pointAt i))) → (j < 9225) × Reach way (pointAt j)
   onward i j h r m =

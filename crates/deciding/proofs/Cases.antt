@@ -4,7 +4,6 @@ use mathlib.Core.List.{List}
 use borrow.Author.Tests.{eqb-true}
 use lib.Dec.{eqb}
 use lib.IntN.{ℤ}
-use Rattle.words.specs.Word.{pick}
 use Rattle.words.proofs.Bools.{picked}
 use Rattle.wire.specs.declared.Command.{Command}
 use Rattle.order.specs.Order.{comparedW}
@@ -43,36 +42,20 @@ pub by-command : (c : Command) (core : Core) (values : List ℤ) (P : Effect →
 unfolding decidedBy
 by-command c core values P each =
     let n = c .number in
-    let from-36 = numbers.clear (c .kind) (core .flags) in
-    let from-35 = pick (eqb n 35) (take (bankPlace (c .motor) (c .kind)) (core .accumulator) values) from-36 in
-    let from-34 = pick (eqb n 34) (take (axisPlace (c .kind)) (core .accumulator) values) from-35 in
-    let from-33 = pick (eqb n 33) (numbers.calcx (c .kind) (core .accumulator) (core .x)) from-34 in
-    let from-20 = pick (eqb n 20) (Last (comparedW (core .accumulator .v) (c .value .v))) from-33 in
-    let from-19 = pick (eqb n 19) (numbers.calc (c .kind) (c .value) (core .accumulator) (core .x)) from-20 in
-    let from-14 = pick (eqb n 14) (Output (c .kind) (bitOf (c .value .v))) from-19 in
-    let from-12 = pick (eqb n 12) (Restore (bankPlace (c .motor) (c .kind))) from-14 in
-    let from-11 = pick (eqb n 11) (keep (bankPlace (c .motor) (c .kind)) values) from-12 in
-    let from-9 = pick (eqb n 9) (assign (bankPlace (c .motor) (c .kind)) (c .value) values) from-11 in
-    let from-8 = pick (eqb n 8) (Restore (axisPlace (c .kind))) from-9 in
-    let from-7 = pick (eqb n 7) (keep (axisPlace (c .kind)) values) from-8 in
-    let from-5 = pick (eqb n 5) (assign (axisPlace (c .kind)) (c .value) values) from-7 in
-    let from-4 = pick (eqb n 4) (moveTo (c .kind) (c .value) values) from-5 in
-    let from-3 = pick (eqb n 3) stop from-4 in
-    let from-2 = pick (eqb n 2) (leftWithin (parameter 43 values .v) (c .value .v)) from-3 in
-    picked P (eqb n 1) (rightWithin (parameter 43 values .v) (c .value .v)) from-2 (λ q. each .ror (eqb-true n 1 q))
-    (picked P (eqb n 2) (leftWithin (parameter 43 values .v) (c .value .v)) from-3 (λ q. each .rol (eqb-true n 2 q))
-    (picked P (eqb n 3) stop from-4 (λ q. each .mst (eqb-true n 3 q))
-    (picked P (eqb n 4) (moveTo (c .kind) (c .value) values) from-5 (λ q. each .mvp (eqb-true n 4 q))
-    (picked P (eqb n 5) (assign (axisPlace (c .kind)) (c .value) values) from-7 (λ q. each .sap (eqb-true n 5 q))
-    (picked P (eqb n 7) (keep (axisPlace (c .kind)) values) from-8 (λ q. each .stap (eqb-true n 7 q))
-    (picked P (eqb n 8) (Restore (axisPlace (c .kind))) from-9 (λ q. each .rsap (eqb-true n 8 q))
-    (picked P (eqb n 9) (assign (bankPlace (c .motor) (c .kind)) (c .value) values) from-11 (λ q. each .sgp (eqb-true n 9 q))
-    (picked P (eqb n 11) (keep (bankPlace (c .motor) (c .kind)) values) from-12 (λ q. each .stgp (eqb-true n 11 q))
-    (picked P (eqb n 12) (Restore (bankPlace (c .motor) (c .kind))) from-14 (λ q. each .rsgp (eqb-true n 12 q))
-    (picked P (eqb n 14) (Output (c .kind) (bitOf (c .value .v))) from-19 (λ q. each .sio (eqb-true n 14 q))
-    (picked P (eqb n 19) (numbers.calc (c .kind) (c .value) (core .accumulator) (core .x)) from-20 (λ q. each .calc (eqb-true n 19 q))
-    (picked P (eqb n 20) (Last (comparedW (core .accumulator .v) (c .value .v))) from-33 (λ q. each .comp (eqb-true n 20 q))
-    (picked P (eqb n 33) (numbers.calcx (c .kind) (core .accumulator) (core .x)) from-34 (λ q. each .calcx (eqb-true n 33 q))
-    (picked P (eqb n 34) (take (axisPlace (c .kind)) (core .accumulator) values) from-35 (λ q. each .aap (eqb-true n 34 q))
-    (picked P (eqb n 35) (take (bankPlace (c .motor) (c .kind)) (core .accumulator) values) from-36 (λ q. each .agp (eqb-true n 35 q))
+    picked P (eqb n 1) _ _ (λ q. each .ror (eqb-true n 1 q))
+    (picked P (eqb n 2) _ _ (λ q. each .rol (eqb-true n 2 q))
+    (picked P (eqb n 3) _ _ (λ q. each .mst (eqb-true n 3 q))
+    (picked P (eqb n 4) _ _ (λ q. each .mvp (eqb-true n 4 q))
+    (picked P (eqb n 5) _ _ (λ q. each .sap (eqb-true n 5 q))
+    (picked P (eqb n 7) _ _ (λ q. each .stap (eqb-true n 7 q))
+    (picked P (eqb n 8) _ _ (λ q. each .rsap (eqb-true n 8 q))
+    (picked P (eqb n 9) _ _ (λ q. each .sgp (eqb-true n 9 q))
+    (picked P (eqb n 11) _ _ (λ q. each .stgp (eqb-true n 11 q))
+    (picked P (eqb n 12) _ _ (λ q. each .rsgp (eqb-true n 12 q))
+    (picked P (eqb n 14) _ _ (λ q. each .sio (eqb-true n 14 q))
+    (picked P (eqb n 19) _ _ (λ q. each .calc (eqb-true n 19 q))
+    (picked P (eqb n 20) _ _ (λ q. each .comp (eqb-true n 20 q))
+    (picked P (eqb n 33) _ _ (λ q. each .calcx (eqb-true n 33 q))
+    (picked P (eqb n 34) _ _ (λ q. each .aap (eqb-true n 34 q))
+    (picked P (eqb n 35) _ _ (λ q. each .agp (eqb-true n 35 q))
     (each .cle))))))))))))))))

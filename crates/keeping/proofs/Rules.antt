@@ -5,15 +5,14 @@ use mathlib.Core.Path.{_≡_, refl}
 use mathlib.Core.Bool.{Bool, true, false}
 use mathlib.Core.List.{List}
 use lib.Dec.{leb}
-use lib.IntN.{ℤ, pos}
+use lib.IntN.{ℤ}
 use lib.ListN.{length, getD}
 use mir.Syntax.{w32}
 use mir.Val.{SFits}
 use mir.ValLaws.{toZ-fits}
-use Rattle.words.specs.Word.{pick, word}
+use Rattle.words.specs.Word.{pick}
 use Rattle.words.specs.Bytes.{wordOf, wordAt}
 use Rattle.words.specs.Laws.{AllBytes}
-use Rattle.words.specs.declared.Word.{Word}
 use Rattle.words.proofs.Bools.{picked}
 use Rattle.wire.specs.Frame.{commandAt}
 use Rattle.wire.specs.declared.Command.{Command}
@@ -25,13 +24,12 @@ use Rattle.status.specs.declared.Status.{Status}
 use Rattle.status.specs.declared.Status.the-variants.{Done, Unavailable, Value}
 use Rattle.judge.specs.Judge.{judged, isFlow, isReading}
 use Rattle.flow.specs.Flow.{flowed}
-use Rattle.reading.specs.Reading.{read}
 use Rattle.effects.specs.Effects.{Work}
 use Rattle.deciding.specs.Deciding.{decided, worked}
 use Rattle.stepping.specs.Step.{State, Pins, After, after, only, loaded, afterFlow, afterWork, carried, obeyed, step}
 use Rattle.running.specs.Run.{Progress, advanced, goesOn, run}
-use Rattle.directing.specs.Direct as directing
-use Rattle.directing.specs.Direct.{Direct, direct, refused, answered, answer, changed, directed}
+use Rattle.directing.specs.Direct.{Direct, directed}
+use Rattle.directing.proofs.Cases.{by-command}
 use Rattle.keeping.specs.Sound.{Sound}
 use Rattle.keeping.specs.Laws.{Laws, left}
 use Rattle.keeping.proofs.Cores.{next-in-range, stopped-in-range}
@@ -70,58 +68,28 @@ worked-refused c x = applied-refused x (decided c (x .core) (x .values))
 
 -- ---- direct commands
 module _ (c : Command) (x : State) where
-  -- what holds with all as it was, and of the command's work once the judge has let it through, holds of what the command leaves
-  by-direct : (digital : List ℕ) (analog : List ℤ) (P : Direct → Type 0)
-      → ((s : Status) (w : Word) → P (direct (answered s w (x .core)) (x .values) (x .outputs) (x .store)))
-      → (isDone (judged c) ≡ true → P (changed c (x .core) (x .values) (x .outputs) (x .store)))
-      → P (directed c (x .core) (x .values) (x .outputs) digital analog (x .store))
-  unfolding directed
-  by-direct digital analog P same working =
-      let v = x .values in
-      let o = x .outputs in
-      let m = x .store in
-      let unavailable = direct (refused Unavailable (x .core)) v o m in
-      let r = read c (x .core) v o digital analog in
-      let reading = direct (answered Done r (x .core)) v o m in
-      let through = pick (isReading (c .number)) reading (changed c (x .core) v o m) in
-      let not-through = direct (refused (judged c) (x .core)) v o m in
-      picked P (isFlow (c .number)) unavailable (pick (isDone (judged c)) through not-through) (λ _. same Unavailable (word (pos 0)))
-      (picked P (isDone (judged c)) through not-through
-      (λ h. picked P (isReading (c .number)) reading (changed c (x .core) v o m) (λ _. same Done r) (working h))
-      (same (judged c) (word (pos 0))))
-
-  -- what holds of the command's work, whatever is answered, holds of what it changes
-  by-work : (P : Direct → Type 0) (k : Work)
-      → ((w : Word) → P (direct (answered (k .status) w (k .core)) (k .values) (k .outputs) (k .store)))
-      → P (directing.afterWork c k)
-  by-work P k f =
-      let w = answer c (k .core) in
-      picked P (isDone (k .status)) (direct (answered (k .status) w (k .core)) (k .values) (k .outputs) (k .store))
-      (direct (refused (k .status) (k .core)) (k .values) (k .outputs) (k .store)) (λ _. f w) (f (word (pos 0)))
+  abbrev work : Work
+  work = worked c (x .core) (x .values) (x .outputs) (x .store)
 
   module _ (digital : List ℕ) (analog : List ℤ) where
-    direct-sound : SFits w32 (c .value .v) → Sound x
-        → Sound (left (directed c (x .core) (x .values) (x .outputs) digital analog (x .store)) (x .entries))
-    unfolding changed
-    direct-sound f s =
-        let P : Direct → Type 0 = λ d. Sound (left d (x .entries)) in
-        by-direct digital analog P (λ _ _. s)
-        (λ h. by-work P (worked c (x .core) (x .values) (x .outputs) (x .store)) (λ _. worked-sound c x h f s))
+    abbrev here : Direct
+    here = directed c (x .core) (x .values) (x .outputs) digital analog (x .store)
 
-    direct-store : length (directed c (x .core) (x .values) (x .outputs) digital analog (x .store) .store) ≡ length (x .store)
-    unfolding changed
-    direct-store =
-        let P : Direct → Type 0 = λ d. length (d .store) ≡ length (x .store) in
-        by-direct digital analog P (λ _ _. refl)
-        (λ _. by-work P (worked c (x .core) (x .values) (x .outputs) (x .store)) (λ _. worked-store c x))
+    -- what holds with all as it was, and of the command's work once the judge has let it through, holds of what the command leaves
+    by-direct : (P : Status → State → Type 0) → ((s : Status) → P s x)
+        → (isDone (judged c) ≡ true → P (work .status) (leaves work (x .entries))) → P (here .status) (left here (x .entries))
+    by-direct P same works =
+        by-command c (x .core) (x .values) (x .outputs) digital analog (x .store) (λ d. P (d .status) (left d (x .entries)))
+        (record { flow = same Unavailable; not-through = λ _. same (judged c); reading = same Done; done = λ h _. works h; failed = λ h _. works h })
 
-    direct-refused : isDone (directed c (x .core) (x .values) (x .outputs) digital analog (x .store) .status) ≡ false
-        → left (directed c (x .core) (x .values) (x .outputs) digital analog (x .store)) (x .entries) ≡ x
-    unfolding changed
-    direct-refused =
-        let P : Direct → Type 0 = λ d. isDone (d .status) ≡ false → left d (x .entries) ≡ x in
-        by-direct digital analog P (λ _ _ _. refl)
-        (λ _. by-work P (worked c (x .core) (x .values) (x .outputs) (x .store)) (λ _. worked-refused c x))
+    direct-sound : SFits w32 (c .value .v) → Sound x → Sound (left here (x .entries))
+    direct-sound f s = by-direct (λ _. Sound) (λ _. s) (λ h. worked-sound c x h f s)
+
+    direct-store : length (here .store) ≡ length (x .store)
+    direct-store = by-direct (λ _ y. length (y .store) ≡ length (x .store)) (λ _. refl) (λ _. worked-store c x)
+
+    direct-refused : isDone (here .status) ≡ false → left here (x .entries) ≡ x
+    direct-refused = by-direct (λ s y. isDone s ≡ false → y ≡ x) (λ _ _. refl) (λ _. worked-refused c x)
 
 -- ---- steps
 -- what holds after a stop, after the next record, after the program's flow, after a reading and after the work of a command that the

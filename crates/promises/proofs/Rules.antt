@@ -5,19 +5,18 @@ use borrow.Author.Tests.{eq-eqb}
 use mathlib.Core.Path.{_≡_, refl, ap, _∙_}
 use mathlib.Core.Bool.{true, _&&_}
 use mathlib.Core.List.{List}
-use lib.Dec.{eqb, lit<}
+use lib.Dec.{lit<}
 use lib.IntN.{pos}
 use lib.ListN.{length, replicate}
-use Rattle.words.specs.Word.{pick}
 use Rattle.words.specs.declared.Word.{Word}
-use Rattle.words.proofs.Bools.{is-true, is-T, each, picked}
+use Rattle.words.proofs.Bools.{is-true, is-T, each}
 use Rattle.order.specs.Order.{sameW}
 use Rattle.sheet.specs.Rows.{rows, parameters}
 use Rattle.sheet.specs.Places.{globalPlace}
 use Rattle.sheet.specs.Sheet.{axis, globals, rweRows, rwRows, rRows}
 use Rattle.values.specs.Values.{valueAt, valuesInRange, poweredAt}
 use Rattle.values.proofs.Rules as values
-use Rattle.ranges.specs.Range.{entriesInRange, bitsInRange, analogInRange}
+use Rattle.ranges.specs.Range.{entriesInRange, bitsInRange, analogInRange, pinsInRange}
 use Rattle.registers.specs.Range.{coreInRange, downloadInRange}
 use Rattle.waits.specs.Waits as waits
 use Rattle.registers.specs.Laws as reg-laws
@@ -28,10 +27,9 @@ use Rattle.sampling.specs.Sample.{sampleInRange}
 use Rattle.sampling.specs.declared.Sample.{Sample}
 use Rattle.sampling.proofs.Rules as sampling
 use Rattle.board.specs.Registers.{powered}
-use Rattle.events.specs.Events.{withSample, withTick}
 use Rattle.board.specs.Range.{addressesInRange, registersInRange}
-use Rattle.ranges.specs.Range.{pinsInRange}
-use Rattle.events.specs.Events.{Outcome, outcome, statusOf, poweredUp, sampled, ticked}
+use Rattle.events.specs.Events.{Outcome, outcome, statusOf, withSample, withTick, poweredUp, sampled, ticked}
+use Rattle.events.proofs.Cases.{by-power-up, by-sample, by-tick}
 use Rattle.promises.specs.Laws.{OneOutcome, Laws}
 use Rattle.board.specs.declared.Registers.{Registers}
 use Rattle.events.specs.declared.Answer.{Answer}
@@ -117,49 +115,32 @@ module _ (r : Registers) (p : Parts r) where
         values = sampling.values-in-range s (r .values) e n (p .values);
       }
 
-Kept : Outcome → Type 0
-Kept o = registersInRange (o .registers) ≡ true
-
 module _ (r : Registers) (h : registersInRange r ≡ true) where
-  pub power-up-in-range : (s : List ℕ) → registersInRange (poweredUp s r .registers) ≡ true
-  unfolding poweredUp Kept
-  power-up-in-range s = picked Kept (eqb (length s) 364) (outcome 100 (powered s)) (outcome 20 r) (λ _. powered-in-range s) h
+  abbrev Kept : Outcome → Type 0
+  Kept o = registersInRange (o .registers) ≡ true
 
-  pub tick-in-range : registersInRange (ticked r .registers) ≡ true
-  unfolding ticked Kept
-  tick-in-range =
-      picked Kept (registersInRange r) (outcome 100 (withTick r)) (outcome 23 r)
-      (λ _. whole (withTick r) (with-tick r (parts r h))) h
+  pub power-up-in-range : (s : List ℕ) → Kept (poweredUp s r)
+  power-up-in-range s = by-power-up r Kept s (powered-in-range s) h
 
-  pub sample-in-range : (s : Sample) → length (r .values) ≡ 103 → registersInRange (sampled s r .registers) ≡ true
-  unfolding sampled Kept
-  sample-in-range s n =
-      let inner = pick (sampleInRange s) (outcome 100 (withSample s r)) (outcome 21 r) in
-      picked Kept (registersInRange r) inner (outcome 23 r)
-      (λ _. picked Kept (sampleInRange s) (outcome 100 (withSample s r)) (outcome 21 r)
-      (λ e. whole (withSample s r) (with-sample r (parts r h) s e n)) h) h
+  pub tick-in-range : Kept (ticked r)
+  tick-in-range = by-tick r Kept (whole (withTick r) (with-tick r (parts r h))) h
+
+  pub sample-in-range : (s : Sample) → length (r .values) ≡ 103 → Kept (sampled s r)
+  sample-in-range s n = by-sample r Kept s (λ e. whole (withSample s r) (with-sample r (parts r h) s e n)) h h
 
 -- ---- a refused event changes nothing
-Refused : Registers → Outcome → Type 0
-Refused r o = (o .status ≡ 100 → ⊥) → o .registers ≡ r
-
 module _ (r : Registers) where
-  pub power-up-refused : (s : List ℕ) → (poweredUp s r .status ≡ 100 → ⊥) → poweredUp s r .registers ≡ r
-  unfolding poweredUp Refused
-  power-up-refused s =
-      picked (Refused r) (eqb (length s) 364) (outcome 100 (powered s)) (outcome 20 r) (λ _ n. absurd (n refl)) (λ _. refl)
+  abbrev Refused : Outcome → Type 0
+  Refused o = (o .status ≡ 100 → ⊥) → o .registers ≡ r
 
-  pub tick-refused : (ticked r .status ≡ 100 → ⊥) → ticked r .registers ≡ r
-  unfolding ticked Refused
-  tick-refused =
-      picked (Refused r) (registersInRange r) (outcome 100 (withTick r)) (outcome 23 r) (λ _ n. absurd (n refl)) (λ _. refl)
+  pub power-up-refused : (s : List ℕ) → Refused (poweredUp s r)
+  power-up-refused s = by-power-up r Refused s (λ n. absurd (n refl)) (λ _. refl)
 
-  pub sample-refused : (s : Sample) → (sampled s r .status ≡ 100 → ⊥) → sampled s r .registers ≡ r
-  unfolding sampled Refused
-  sample-refused s =
-      picked (Refused r) (registersInRange r) (pick (sampleInRange s) (outcome 100 (withSample s r)) (outcome 21 r)) (outcome 23 r)
-      (λ _. picked (Refused r) (sampleInRange s) (outcome 100 (withSample s r)) (outcome 21 r) (λ _ n. absurd (n refl)) (λ _. refl))
-      (λ _. refl)
+  pub tick-refused : Refused (ticked r)
+  tick-refused = by-tick r Refused (λ n. absurd (n refl)) (λ _. refl)
+
+  pub sample-refused : (s : Sample) → Refused (sampled s r)
+  sample-refused s = by-sample r Refused s (λ _ n. absurd (n refl)) (λ _. refl) (λ _. refl)
 
 -- ---- values after power-up
 powered-at : (s : List ℕ) (i : ℕ) → i < 103 → valueAt (powered s .values) i ≡ poweredAt rows s i

@@ -16,7 +16,8 @@ use Rattle.registers.specs.declared.Core.{Core}
 use Rattle.waits.specs.declared.Wait.{Wait}
 use Rattle.status.specs.Status.{isDone, isUnknown}
 use Rattle.status.specs.declared.Status.{Status}
-use Rattle.status.specs.declared.Status.the-variants.{Done, Stored, Checksum, Unknown, Kind, Value, Locked, Unavailable}
+use Rattle.status.specs.declared.Status.the-variants.{Done, Value, Unavailable}
+use Rattle.status.proofs.Statuses.{by-status}
 use Rattle.stack.specs.Stack.{pushed, popped}
 use Rattle.jumping.specs.Jump.{jumps, addressOf}
 use Rattle.waiting.specs.Waiting.{happened, notNegative, armedFrom, armedWith, tested, waited}
@@ -120,23 +121,13 @@ module _ (r : Command) (p : Pins) (x : State) where
   carried-held false e = other-armed e
 
 -- ---- every step
-by-status : (s : Status) (u v w : After) → armed u ≡ false → armed w ≡ false
-    → armed (pick (isUnknown s) u (pick (isDone s) v w)) ≡ isDone s && armed v
-by-status Done u v w e f = refl
-by-status Unknown u v w e f = e
-by-status Stored u v w e f = f
-by-status Checksum u v w e f = f
-by-status Kind u v w e f = f
-by-status Value u v w e f = f
-by-status Locked u v w e f = f
-by-status Unavailable u v w e f = f
-
 obeyed-held : (r : Command) (p : Pins) (x : State) → armed (obeyed r p x) ≡ holds r x
 unfolding obeyed
 obeyed-held r p x =
-    let j = judged r in
-    rw (← carried-held r p x (eqb (r .number) 27) refl)
-    (by-status j (after j (only (stopped (x .core)) x)) (carried r p x) (after j (only (next (x .core)) x)) refl refl)
+    let stop = after (judged r) (only (stopped (x .core)) x) in
+    let goes = after (judged r) (only (next (x .core)) x) in
+    let P : Status → Type 0 = λ s. armed (pick (isUnknown s) stop (pick (isDone s) (carried r p x) goes)) ≡ isDone s && armed (carried r p x) in
+    rw (← carried-held r p x (eqb (r .number) 27) refl) (by-status P refl refl refl refl refl refl refl refl (judged r))
 
 by-end : (b : Bool) (u v : After) → armed u ≡ false → armed (pick b u v) ≡ not b && armed v
 by-end true u v e = e

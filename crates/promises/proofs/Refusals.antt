@@ -1,7 +1,7 @@
 -- The laws of commands, datagrams and runs. Assumes nothing.
-use Prim.Native.Nat.{ℕ, _+_}
+use Prim.Native.Nat.{ℕ}
 use mathlib.Core.Path.{_≡_, refl, sym, ap, _∙_}
-use mathlib.Core.Bool.{Bool, true, false, true≢false, _&&_}
+use mathlib.Core.Bool.{false, true≢false, _&&_}
 use mathlib.Core.List.{List}
 use lib.Dec.{eqb, leb}
 use lib.IntN.{pos}
@@ -18,15 +18,11 @@ use Rattle.wire.specs.declared.Command.{Command}
 use Rattle.status.specs.Status.{numberOf, isDone}
 use Rattle.status.specs.declared.Status.{Status}
 use Rattle.status.specs.declared.Status.the-variants.{Done, Stored, Checksum, Unknown, Kind, Value, Locked, Unavailable}
-use Rattle.settings.specs.Settings.{locked}
-use Rattle.store.specs.Store.{putRecord}
-use Rattle.judge.specs.Judge.{judged, isFlow, isReading}
-use Rattle.reading.specs.Reading.{read}
-use Rattle.deciding.specs.Deciding.{worked}
+use Rattle.status.proofs.Statuses.{by-status}
 use Rattle.running.specs.Run as running
 use Rattle.stepping.specs.Step.{State}
-use Rattle.directing.specs.Direct as directing
-use Rattle.directing.specs.Direct.{Direct, directed, changed}
+use Rattle.directing.specs.Direct.{directed}
+use Rattle.directing.proofs.Cases.{by-command}
 use Rattle.keeping.specs.Laws as keep-laws
 use Rattle.keeping.proofs.Rules as keeping
 use Rattle.serial.specs.Serial.{takenOf}
@@ -34,18 +30,22 @@ use Rattle.serial.specs.declared.Taken.{Taken}
 use Rattle.serial.specs.declared.Taken.the-variants.{NotOurs, Damaged, Whole}
 use Rattle.control.specs.Control as control
 use Rattle.board.specs.Range.{registersInRange}
-use Rattle.board.specs.Step.{stateOf, pinsOf, withState, stepsOf, steps, stepOnce}
+use Rattle.board.specs.Step.{stateOf, pinsOf, withState, steps, stepOnce}
 use Rattle.board.specs.declared.Registers.{Registers}
 use Rattle.commands.specs.Obey.{Outcome, direct, outcome, obeyed}
-use Rattle.controlling.specs.Controlling.{controlled, judgedControl, afterControl, obeyedControl}
-use Rattle.outcomes.specs.Outcome as outcomes
-use Rattle.outcomes.specs.Outcome.{Changed, done, refused}
-use Rattle.storing.specs.Storing.{Kept, kept, withDownload, stored}
+use Rattle.commands.proofs.Cases.{by-mode}
+use Rattle.controlling.specs.Controlling.{controlled, judgedControl, obeyedControl}
+use Rattle.controlling.proofs.Cases.{by-judge}
+use Rattle.outcomes.specs.Outcome.{done, refused}
+use Rattle.storing.specs.Storing.{stored}
+use Rattle.storing.proofs.Cases.{by-stored}
 use Rattle.runs.specs.Run as runs
+use Rattle.runs.proofs.Cases.{by-run}
 use Rattle.runs.specs.declared.Ended.{Ended}
 use Rattle.runs.specs.declared.Ended.the-variants.{Length, HandedIn, Budget, Last}
 use Rattle.runs.specs.declared.Ran.{Ran}
-use Rattle.datagrams.specs.Datagram.{Board, After, board, lent, unchanged, left, answerStatus, obeyedBy, received, datagram}
+use Rattle.datagrams.specs.Datagram.{Board, After, board, left, answerStatus, obeyedBy, received, datagram}
+use Rattle.datagrams.proofs.Cases.{by-datagram}
 use Rattle.replying.specs.Reply.{byteOf, addresses, replied}
 use Rattle.datagrams.specs.declared.Answer as answers
 use Rattle.datagrams.specs.declared.Answer.{Answer}
@@ -54,85 +54,48 @@ use Rattle.promises.specs.Commands.{Commands, InRange, carriedOut}
 use Rattle.promises.proofs.Kept.{with-state, sound, obeyed-kept}
 
 -- ---- statuses
-done-carried : (s : Status) → isDone s ≡ true → carriedOut s ≡ false → ⊥
-done-carried Done d f = true≢false f
-done-carried Stored d f = true≢false f
-done-carried Checksum d f = true≢false (sym d)
-done-carried Unknown d f = true≢false (sym d)
-done-carried Kind d f = true≢false (sym d)
-done-carried Value d f = true≢false (sym d)
-done-carried Locked d f = true≢false (sym d)
-done-carried Unavailable d f = true≢false (sym d)
-
 not-done : (s : Status) → carriedOut s ≡ false → isDone s ≡ false
-not-done Done f = absurd (true≢false f)
-not-done Stored f = refl
-not-done Checksum f = refl
-not-done Unknown f = refl
-not-done Kind f = refl
-not-done Value f = refl
-not-done Locked f = refl
-not-done Unavailable f = refl
+not-done =
+    by-status (λ s. carriedOut s ≡ false → isDone s ≡ false) (λ f. absurd (true≢false f)) (λ _. refl) (λ _. refl) (λ _. refl) (λ _. refl)
+    (λ _. refl) (λ _. refl) (λ _. refl)
 
 not-carried : (s : Status) → (numberOf s ≡ 100 → ⊥) → (numberOf s ≡ 101 → ⊥) → carriedOut s ≡ false
-not-carried Done n k = absurd (n refl)
-not-carried Stored n k = absurd (k refl)
-not-carried Checksum n k = refl
-not-carried Unknown n k = refl
-not-carried Kind n k = refl
-not-carried Value n k = refl
-not-carried Locked n k = refl
-not-carried Unavailable n k = refl
+not-carried =
+    by-status (λ s. (numberOf s ≡ 100 → ⊥) → (numberOf s ≡ 101 → ⊥) → carriedOut s ≡ false) (λ n _. absurd (n refl)) (λ _ k. absurd (k refl))
+    (λ _ _. refl) (λ _ _. refl) (λ _ _. refl) (λ _ _. refl) (λ _ _. refl) (λ _ _. refl)
 
 -- ---- a refused command
 direct-value : (c : Command) (r : Registers) (m : List ℕ)
     → isDone (directed c (r .core) (r .values) (r .outputs) (r .digital) (r .analog) m .status) ≡ false
     → directed c (r .core) (r .values) (r .outputs) (r .digital) (r .analog) m .value ≡ word (pos 0)
-unfolding directed changed
 direct-value c r m =
-    let P : Direct → Type 0 = λ d. isDone (d .status) ≡ false → d .value ≡ word (pos 0) in
-    let same : Status → Word → Direct = λ s w. directing.direct (directing.answered s w (r .core)) (r .values) (r .outputs) m in
-    let w = worked c (r .core) (r .values) (r .outputs) m in
-    let reads = same Done (read c (r .core) (r .values) (r .outputs) (r .digital) (r .analog)) in
-    let answered = directing.direct (directing.answered (w .status) (directing.answer c (w .core)) (w .core)) (w .values) (w .outputs) (w .store) in
-    let not-answered = directing.direct (directing.refused (w .status) (w .core)) (w .values) (w .outputs) (w .store) in
-    let works = pick (isDone (w .status)) answered not-answered in
-    let through = pick (isReading (c .number)) reads works in
-    picked P (isFlow (c .number)) (same Unavailable (word (pos 0))) (pick (isDone (judged c)) through (same (judged c) (word (pos 0)))) (λ _ _. refl)
-    (picked P (isDone (judged c)) through (same (judged c) (word (pos 0)))
-    (λ _. picked P (isReading (c .number)) reads works (λ _ f. absurd (true≢false f))
-    (picked P (isDone (w .status)) answered not-answered (λ e f. absurd (true≢false (sym e ∙ f))) (λ _. refl)))
-    (λ _. refl))
+    by-command c (r .core) (r .values) (r .outputs) (r .digital) (r .analog) m (λ d. isDone (d .status) ≡ false → d .value ≡ word (pos 0))
+    (record {
+      flow = λ _. refl;
+      not-through = λ _ _. refl;
+      reading = λ f. absurd (true≢false f);
+      done = λ _ e f. absurd (true≢false (sym e ∙ f));
+      failed = λ _ _ _. refl;
+    })
 
 module _ (c : Command) (r : Registers) (p m : List ℕ) where
-  Refused : Outcome → Type 0
+  abbrev Refused : Outcome → Type 0
   Refused o = carriedOut (o .status) ≡ false → o ≡ outcome (refused (o .status) r) p m
 
   control-refused : Refused (outcome (obeyedControl c p r m .obeyed) p (obeyedControl c p r m .store))
-  unfolding obeyedControl Refused
   control-refused =
-      let s = judgedControl c r in
-      picked (λ (o : Changed). Refused (outcome (o .obeyed) p (o .store))) (isDone s)
-      (afterControl s (control.answer c (r .core .running) p) (controlled c p r m)) (outcomes.changed (refused s r) m)
-      (λ e f. absurd (done-carried s e f)) (λ _. refl)
+      by-judge c p r m (λ o. Refused (outcome (o .obeyed) p (o .store)))
+      (λ e f. absurd (true≢false (sym e ∙ not-done (judgedControl c r) f))) (λ _ _. refl)
 
   stored-refused : Refused (outcome (stored c r p .obeyed) (stored c r p .program) m)
-  unfolding stored Refused
-  stored-refused =
-      let Q : Kept → Type 0 = λ o. Refused (outcome (o .obeyed) (o .program) m) in
-      let a = r .download .address in
-      let rise = kept (done Stored (c .value) (withDownload (record { on = r .download .on; address = a + 1 }) r)) (putRecord p a c) in
-      let full = pick (leb 1024 a) (kept (refused Value r) p) rise in
-      picked Q (eqb (c .number) 0) (kept (refused Unknown r) p) (pick (locked (r .values)) (kept (refused Locked r) p) full) (λ _ _. refl)
-      (picked Q (locked (r .values)) (kept (refused Locked r) p) full (λ _ _. refl)
-      (picked Q (leb 1024 a) (kept (refused Value r) p) rise (λ _ _. refl) (λ f. absurd (true≢false f))))
+  stored-refused = by-stored c r p (λ o. Refused (outcome (o .obeyed) (o .program) m)) (λ _ _. refl) (λ _ f. absurd (true≢false f))
 
   -- a command's outcome, from the state it leaves
   from : Status → Word → State → Outcome
   from s w x = record { registers = withState x r; program = p; store = x .store; status = s; value = w }
 
   direct-refused : Refused (outcome (direct c r m .obeyed) p (direct c r m .store))
-  unfolding direct Refused from
+  unfolding direct from
   direct-refused f =
       let l : keep-laws.Laws = keeping.laws in
       let d = directed c (r .core) (r .values) (r .outputs) (r .digital) (r .analog) m in
@@ -140,14 +103,8 @@ module _ (c : Command) (r : Registers) (p m : List ℕ) where
       let e = l .direct-refused c (r .digital) (r .analog) (stateOf r m) n in
       ap (from (d .status) (d .value)) e ∙ ap (λ (w : Word). from (d .status) w (stateOf r m)) (direct-value c r m n)
 
-  command-refused : carriedOut (obeyed c r p m .status) ≡ false → obeyed c r p m ≡ outcome (refused (obeyed c r p m .status) r) p m
-  unfolding obeyed Refused
-  command-refused =
-      let by-control = outcome (obeyedControl c p r m .obeyed) p (obeyedControl c p r m .store) in
-      let storing = outcome (stored c r p .obeyed) (stored c r p .program) m in
-      let directs = outcome (direct c r m .obeyed) p (direct c r m .store) in
-      picked Refused (leb 128 (c .number)) by-control (pick (r .download .on) storing directs) (λ _. control-refused)
-      (picked Refused (r .download .on) storing directs (λ _. stored-refused) direct-refused)
+  command-refused : Refused (obeyed c r p m)
+  command-refused = by-mode c r p m Refused (record { control = control-refused; storing = λ _. stored-refused; direct = direct-refused })
 
   single-step : c .number ≡ 130 → r .core .running ≡ false → r .download .on ≡ false
       → obeyed c r p m ≡ outcome (done Done (c .value) (stepOnce p r m .registers)) p (stepOnce p r m .store)
@@ -155,39 +112,28 @@ module _ (c : Command) (r : Registers) (p m : List ℕ) where
   single-step e run on = simp (e, run, on)
 
 -- ---- datagrams
-module _ (bytes : List ℕ) (x : Board) where
-  -- what holds where nothing changes, and of what was received, holds of what a datagram leaves
-  by-datagram : (P : After → Type 0) → ((n : ℕ) → P (unchanged n x)) → P (received (takenOf (byteOf (x .registers .values) 66) bytes) x)
-      → P (datagram bytes x)
-  unfolding datagram
-  by-datagram P same f =
-      let taken = received (takenOf (byteOf (x .registers .values) 66) bytes) x in
-      picked P (lent (x .program) (x .store) (x .reply)) (pick (registersInRange (x .registers)) taken (unchanged 23 x)) (unchanged 20 x)
-      (λ _. picked P (registersInRange (x .registers)) taken (unchanged 23 x) (λ _. f) (same 23)) (same 20)
+not-ours : (bytes : List ℕ) (x : Board) → takenOf (byteOf (x .registers .values) 66) bytes ≡ NotOurs → datagram bytes x .board ≡ x
+unfolding received
+not-ours bytes x e =
+    by-datagram x (λ t y. received t x .board ≡ x → y .board ≡ x)
+    (record { nothing = λ _ _ _ _. refl; damaged = λ _ q. q; whole = λ _ q. q }) bytes
+    (ap (λ (t : Taken). received t x .board) e)
 
-  not-ours : takenOf (byteOf (x .registers .values) 66) bytes ≡ NotOurs → datagram bytes x .board ≡ x
-  unfolding received
-  not-ours e = by-datagram (λ y. y .board ≡ x) (λ _. refl) (ap (λ (t : Taken). received t x .board) e)
-
-RefusedBy : Board → After → Type 0
+abbrev RefusedBy : Board → After → Type 0
 RefusedBy x y =
     (y .status ≡ 100 → ⊥) → (y .status ≡ 101 → ⊥) → y .board ≡ board (x .registers) (x .program) (x .store) (y .board .reply)
 
-received-refused : (t : Taken) (x : Board) → RefusedBy x (received t x)
-unfolding RefusedBy received obeyedBy
-received-refused NotOurs x n k = refl
-received-refused (Damaged i) x n k = refl
-received-refused (Whole c) x n k =
+obeyed-refused : (c : Command) (x : Board) → RefusedBy x (obeyedBy c x)
+unfolding obeyedBy
+obeyed-refused c x n k =
     let o = obeyed c (x .registers) (x .program) (x .store) in
     let b = replied (x .reply) (addresses (x .registers .values)) (o .status) (c .number) (o .value) in
     ap (λ (y : Outcome). board (y .registers) (y .program) (y .store) b)
     (command-refused c (x .registers) (x .program) (x .store) (not-carried (o .status) n k))
 
-datagram-refused : (bytes : List ℕ) (x : Board) → (datagram bytes x .status ≡ 100 → ⊥) → (datagram bytes x .status ≡ 101 → ⊥)
-    → datagram bytes x .board ≡ board (x .registers) (x .program) (x .store) (datagram bytes x .board .reply)
-unfolding RefusedBy
+datagram-refused : (bytes : List ℕ) (x : Board) → RefusedBy x (datagram bytes x)
 datagram-refused bytes x =
-    by-datagram bytes x (RefusedBy x) (λ _ _ _. refl) (received-refused (takenOf (byteOf (x .registers .values) 66) bytes) x)
+    by-datagram x (λ _. RefusedBy x) (record { nothing = λ _ _ _ _ _. refl; damaged = λ _ _ _. refl; whole = λ c. obeyed-refused c x }) bytes
 
 -- the value of a command that was received is a word
 Fits : Taken → Type 0
@@ -203,56 +149,34 @@ taken-fits ours s b =
     (λ _. picked Fits (eqb (getD s 0 0) ours) whole NotOurs
     (λ _. picked Fits (rightFrame s) (Whole (commandAt s 1)) (Damaged (getD s 1 0)) (λ _. keeping.value-fits s 4 b) tt) tt) tt
 
-received-in-range : (t : Taken) (x : Board) → Fits t → AllBytes (x .program) → InRange (x .registers) → InRange (received t x .board .registers)
-unfolding received obeyedBy Fits
-received-in-range NotOurs x f b h = h
-received-in-range (Damaged n) x f b h = h
-received-in-range (Whole c) x f b h = obeyed-kept c (x .registers) h (x .program) (x .store) f b
-
 datagram-in-range : (bytes : List ℕ) (x : Board) → AllBytes bytes → AllBytes (x .program) → InRange (x .registers)
     → InRange (datagram bytes x .board .registers)
+unfolding obeyedBy Fits
 datagram-in-range bytes x a b h =
-    let ours = byteOf (x .registers .values) 66 in
-    by-datagram bytes x (λ y. InRange (y .board .registers)) (λ _. h)
-    (received-in-range (takenOf ours bytes) x (taken-fits ours bytes a) b h)
+    by-datagram x (λ t y. Fits t → InRange (y .board .registers))
+    (record {
+      nothing = λ _ _ _ _. h;
+      damaged = λ _ _. h;
+      whole = λ c f. obeyed-kept c (x .registers) h (x .program) (x .store) f b;
+    }) bytes
+    (taken-fits (byteOf (x .registers .values) 66) bytes a)
 
 -- ---- runs
 run-in-range : (program : List ℕ) (budget : ℕ) (r : Registers) (m : List ℕ) → AllBytes program → InRange r
     → InRange (runs.run program budget r m .registers)
-unfolding runs.run steps
+unfolding steps
 run-in-range program budget r m b h =
     let l : keep-laws.Laws = keeping.laws in
-    let P : runs.Answer → Type 0 = λ a. InRange (a .registers) in
-    let x = running.run false program (pinsOf r) budget (running.begun (stateOf r m)) in
-    let goes = runs.afterSteps (stepsOf (running.summary x) r) in
-    let over = runs.answered (runs.refused Budget r) m in
-    let out = runs.answered (runs.refused HandedIn r) m in
-    picked P (eqb (length program) 7168 && eqb (length m) 364)
-    (pick (registersInRange r) (pick (leb budget 1000) goes over) out) (runs.answered (runs.refused Length r) m)
-    (λ _. picked P (registersInRange r) (pick (leb budget 1000) goes over) out
-    (λ _. picked P (leb budget 1000) goes over
-    (λ _. with-state r (x .state) h (l .run-sound false program (pinsOf r) budget (running.begun (stateOf r m)) b (sound r m h))) h) h) h
-
-module _ (r : Registers) (m : List ℕ) where
-  abbrev Still : runs.Answer → Type 0
-  Still a = (a .registers ≡ r) × (a .store ≡ m) × (a .steps ≡ 0)
-
-  by-refusal : (a b c d : Bool) (u v w z : runs.Answer) → Still v → Still w → Still z → a && b && (c && d) ≡ false
-      → Still (pick (a && b) (pick c (pick d u v) w) z)
-  by-refusal true true true true u v w z f g h e = absurd (true≢false e)
-  by-refusal true true true false u v w z f g h e = f
-  by-refusal true true false d u v w z f g h e = g
-  by-refusal true false c d u v w z f g h e = h
-  by-refusal false b c d u v w z f g h e = h
+    let x = running.begun (stateOf r m) in
+    by-run program budget r m (λ a. InRange (a .registers)) (λ _. h)
+    (λ _. with-state r (running.run false program (pinsOf r) budget x .state) h (l .run-sound false program (pinsOf r) budget x b (sound r m h)))
 
 run-refused : (program : List ℕ) (budget : ℕ) (r : Registers) (m : List ℕ)
     → eqb (length program) 7168 && eqb (length m) 364 && (registersInRange r && leb budget 1000) ≡ false
     → (runs.run program budget r m .registers ≡ r) × (runs.run program budget r m .store ≡ m) × (runs.run program budget r m .steps ≡ 0)
-unfolding runs.run
 run-refused program budget r m e =
-    by-refusal r m (eqb (length program) 7168) (eqb (length m) 364) (registersInRange r) (leb budget 1000)
-    (runs.afterSteps (steps false program budget r m)) (runs.answered (runs.refused Budget r) m) (runs.answered (runs.refused HandedIn r) m)
-    (runs.answered (runs.refused Length r) m) (refl, refl, refl) (refl, refl, refl) (refl, refl, refl) e
+    by-run program budget r m (λ a. (a .registers ≡ r) × (a .store ≡ m) × (a .steps ≡ 0)) (λ _. (refl, refl, refl))
+    (λ q. absurd (true≢false (sym q ∙ e)))
 
 -- ---- one answer: each is found again by its number
 statusAt : ℕ → Status
@@ -279,28 +203,15 @@ unfolding answerAt statusAt
 answer-again answers.the-variants.Nothing = refl
 answer-again answers.the-variants.Length = refl
 answer-again answers.the-variants.HandedIn = refl
-answer-again (answers.the-variants.Replied Done) = refl
-answer-again (answers.the-variants.Replied Stored) = refl
-answer-again (answers.the-variants.Replied Checksum) = refl
-answer-again (answers.the-variants.Replied Unknown) = refl
-answer-again (answers.the-variants.Replied Kind) = refl
-answer-again (answers.the-variants.Replied Value) = refl
-answer-again (answers.the-variants.Replied Locked) = refl
-answer-again (answers.the-variants.Replied Unavailable) = refl
+answer-again (answers.the-variants.Replied s) =
+    by-status (λ t. answerAt (numberOf t) ≡ answers.the-variants.Replied t) refl refl refl refl refl refl refl refl s
 
 ended-again : (e : Ended) → endedAt (runs.endedStatus e) ≡ e
 unfolding endedAt statusAt
 ended-again Length = refl
 ended-again HandedIn = refl
 ended-again Budget = refl
-ended-again (Last Done) = refl
-ended-again (Last Stored) = refl
-ended-again (Last Checksum) = refl
-ended-again (Last Unknown) = refl
-ended-again (Last Kind) = refl
-ended-again (Last Value) = refl
-ended-again (Last Locked) = refl
-ended-again (Last Unavailable) = refl
+ended-again (Last s) = by-status (λ t. endedAt (numberOf t) ≡ Last t) refl refl refl refl refl refl refl refl s
 
 one-datagram : (a b : Answered) (p m o : List ℕ) → left a p m o ≡ left b p m o → a ≡ b
 one-datagram a b p m o e =

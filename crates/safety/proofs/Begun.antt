@@ -6,30 +6,26 @@ use mathlib.Core.Bool.{true, true≢false, false≢true, _&&_, _||_}
 use mathlib.Core.List.{List}
 use lib.Dec.{eqb}
 use lib.IntN.{pos}
-use lib.ListN.{length}
 use borrow.Author.Tests.{eqb-true, le-leb}
-use Rattle.words.specs.Word.{pick}
-use Rattle.words.proofs.Bools.{each, or-else, picked, either}
+use Rattle.words.proofs.Bools.{each, or-else}
 use Rattle.wire.specs.declared.Command.{Command}
 use Rattle.order.specs.Order.{sameW}
 use Rattle.order.proofs.Same.{same-number}
 use Rattle.jumping.specs.Jump.{addressOf}
-use Rattle.status.specs.Status.{numberOf, isDone}
+use Rattle.status.specs.Status.{numberOf}
 use Rattle.status.proofs.Statuses.{number-done}
 use Rattle.serial.specs.Serial.{takenOf}
 use Rattle.serial.specs.declared.Taken.{Taken}
-use Rattle.serial.specs.declared.Taken.the-variants.{NotOurs, Damaged, Whole}
 use Rattle.control.specs.Control as control
-use Rattle.board.specs.Registers.{powered}
-use Rattle.board.specs.Range.{registersInRange}
 use Rattle.board.specs.declared.Registers.{Registers}
 use Rattle.events.specs.Events as events
-use Rattle.outcomes.specs.Outcome as outcomes
+use Rattle.events.proofs.Cases.{by-power-up}
 use Rattle.controlling.specs.Controlling as controlling
+use Rattle.controlling.proofs.Cases.{by-judge}
 use Rattle.commands.specs.Obey as commands
 use Rattle.replying.specs.Reply.{byteOf}
-use Rattle.datagrams.specs.Datagram.{Board, board, lent, received, obeyedBy, unchanged}
-use Rattle.datagrams.specs.Datagram as datagrams
+use Rattle.datagrams.specs.Datagram.{Board, board, After, obeyedBy, datagram}
+use Rattle.datagrams.proofs.Cases.{by-datagram}
 use Rattle.safety.specs.Events.{World, Event, kept, after, carries, beginsBy, beginsProgram}
 use Rattle.safety.specs.Events as trace
 use Rattle.safety.proofs.Stands as stands
@@ -72,13 +68,10 @@ module _ (program : List ℕ) (c : Command) (r : Registers) (m : List ℕ) where
 
   control-begun : Standing → eqb (numberOf (controlling.obeyedControl c program r m .obeyed .status)) 100 ≡ true
       → Stood program (controlling.obeyedControl c program r m .obeyed .registers)
-  unfolding controlling.obeyedControl
   control-begun h =
       let s = controlling.judgedControl c r in
-      let P : outcomes.Changed → Type 0 = λ k. eqb (numberOf (k .obeyed .status)) 100 ≡ true → Stood program (k .obeyed .registers) in
-      either P (isDone s) (controlling.afterControl s (control.answer c (r .core .running) program) (controlling.controlled c program r m))
-      (outcomes.changed (outcomes.refused s r) m)
-      (λ _ _. h) (λ d e. absurd (true≢false (sym (number-done s e) ∙ d)))
+      by-judge c program r m (λ k. eqb (numberOf (k .obeyed .status)) 100 ≡ true → Stood program (k .obeyed .registers))
+      (λ _ _. h) (λ d e. absurd (true≢false (sym e ∙ number-done s ∙ d)))
 
   abbrev Obeyed : commands.Outcome → Type 0
   Obeyed o = eqb (numberOf (o .status)) 100 ≡ true → Begun program (trace.world (o .program) (o .registers))
@@ -90,31 +83,24 @@ module _ (program : List ℕ) (c : Command) (r : Registers) (m : List ℕ) where
       (λ l h. simp (le-leb 128 (c .number) l) (λ e. record { records = refl; stands = control-begun h e }))
 
 module _ (x : Board) where
-  abbrev Told : Taken → datagrams.After → Type 0
+  abbrev Told : Taken → After → Type 0
   Told t a = eqb (a .status) 100 && carries beginsBy t ≡ true → Begun (x .program) (kept (a .board))
 
-  received-begun : (t : Taken) → Told t (received t x)
-  unfolding received obeyedBy
-  received-begun NotOurs q = absurd (false≢true q)
-  received-begun (Damaged n) q = absurd (false≢true q)
-  received-begun (Whole c) q =
-      let t = each (eqb (numberOf (commands.obeyed c (x .registers) (x .program) (x .store) .status)) 100) (beginsBy c) q in
-      command-begun (x .program) c (x .registers) (x .store) (t .1) (t .0)
-
-  told-begun : (bytes : List ℕ) → Told (takenOf (byteOf (x .registers .values) 66) bytes) (datagrams.datagram bytes x)
-  unfolding datagrams.datagram
-  told-begun bytes =
-      let t = takenOf (byteOf (x .registers .values) 66) bytes in
-      let taken = pick (registersInRange (x .registers)) (received t x) (unchanged 23 x) in
-      picked (Told t) (lent (x .program) (x .store) (x .reply)) taken (unchanged 20 x)
-      (λ _. picked (Told t) (registersInRange (x .registers)) (received t x) (unchanged 23 x) (λ _. received-begun t) (λ q. absurd (false≢true q)))
-      (λ q. absurd (false≢true q))
+  told-begun : (bytes : List ℕ) → Told (takenOf (byteOf (x .registers .values) 66) bytes) (datagram bytes x)
+  unfolding obeyedBy
+  told-begun =
+      by-datagram x Told
+      (record {
+        nothing = λ t n e q. absurd (false≢true (sym e ∙ each (eqb n 100) (carries beginsBy t) q .0));
+        damaged = λ _ q. absurd (false≢true q);
+        whole = λ c q.
+            let t = each (eqb (numberOf (commands.obeyed c (x .registers) (x .program) (x .store) .status)) 100) (beginsBy c) q in
+            command-begun (x .program) c (x .registers) (x .store) (t .1) (t .0);
+      })
 
 up-begun : (program m : List ℕ) (r : Registers) → eqb (events.poweredUp m r .status) 100 ≡ true → Stood program (events.poweredUp m r .registers)
-unfolding events.poweredUp
 up-begun program m r =
-    picked (λ (o : events.Outcome). eqb (o .status) 100 ≡ true → Stood program (o .registers)) (eqb (length m) 364)
-    (events.outcome 100 (powered m)) (events.outcome 20 r) (λ _ _. powered-stood program m) (λ e. absurd (false≢true e))
+    by-power-up r (λ o. eqb (o .status) 100 ≡ true → Stood program (o .registers)) m (λ _. powered-stood program m) (λ e. absurd (false≢true e))
 
 pub event-begun : (w : World) (e : Event) → beginsProgram w e ≡ true → Begun (w .program) (after w e)
 unfolding beginsProgram after

@@ -6,28 +6,28 @@ use Rattle.status.specs.Status.{numberOf, isDone, inOrder}
 use Rattle.status.specs.declared.Status.{Status}
 use Rattle.status.specs.declared.Status.the-variants.{Done, Stored, Checksum, Unknown, Kind, Value, Locked, Unavailable}
 
+-- what holds of each holds of every one
+pub by-status : (P : Status → Type 0) → P Done → P Stored → P Checksum → P Unknown → P Kind → P Value → P Locked → P Unavailable → (s : Status) → P s
+by-status P a b c d e f g h Done = a
+by-status P a b c d e f g h Stored = b
+by-status P a b c d e f g h Checksum = c
+by-status P a b c d e f g h Unknown = d
+by-status P a b c d e f g h Kind = e
+by-status P a b c d e f g h Value = f
+by-status P a b c d e f g h Locked = g
+by-status P a b c d e f g h Unavailable = h
+
 pub is-done : (s : Status) → isDone s ≡ true → s ≡ Done
-is-done Done e = refl
-is-done Stored e = absurd (false≢true e)
-is-done Checksum e = absurd (false≢true e)
-is-done Unknown e = absurd (false≢true e)
-is-done Kind e = absurd (false≢true e)
-is-done Value e = absurd (false≢true e)
-is-done Locked e = absurd (false≢true e)
-is-done Unavailable e = absurd (false≢true e)
+is-done = by-status (λ s. isDone s ≡ true → s ≡ Done) (λ _. refl) no no no no no no no
+  where
+    no : {A : Type 0} → false ≡ true → A
+    no e = absurd (false≢true e)
 
 pub not-done : (s : Status) → isDone s ≡ false → s ≡ Done → ⊥
 not-done s f e = true≢false (sym (ap isDone e) ∙ f)
 
-pub number-done : (s : Status) → eqb (numberOf s) 100 ≡ true → isDone s ≡ true
-number-done Done e = refl
-number-done Stored e = absurd (false≢true e)
-number-done Checksum e = absurd (false≢true e)
-number-done Unknown e = absurd (false≢true e)
-number-done Kind e = absurd (false≢true e)
-number-done Value e = absurd (false≢true e)
-number-done Locked e = absurd (false≢true e)
-number-done Unavailable e = absurd (false≢true e)
+pub number-done : (s : Status) → eqb (numberOf s) 100 ≡ isDone s
+number-done = by-status (λ s. eqb (numberOf s) 100 ≡ isDone s) refl refl refl refl refl refl refl refl
 
 -- the five tests of the order of refusals
 pub all-right : (available motor kind value unlocked : Bool) → isDone (inOrder available motor kind value unlocked) ≡ true

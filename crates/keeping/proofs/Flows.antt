@@ -1,5 +1,5 @@
 -- The commands of the program's flow keep the scalars and the call stack in range. Assumes nothing.
-use Prim.Native.Nat.{ℕ, _+_, _-_, _≤_}
+use Prim.Native.Nat.{ℕ, _-_, _≤_}
 use native.Mathlib.Omega.{arith}
 use mathlib.Core.Path.{_≡_, refl}
 use mathlib.Core.Bool.{Bool, true, _&&_}
@@ -7,29 +7,29 @@ use mathlib.Core.List.{List}
 use borrow.Author.Tests.{leb-true, le-leb}
 use lib.Dec.{eqb, ltb, leb}
 use lib.IntN.{ℤ}
-use lib.ListN.{getD, set}
-use Rattle.words.specs.Word.{pick}
+use lib.ListN.{getD}
 use Rattle.words.specs.declared.Word.{Word}
 use Rattle.words.proofs.Bools.{picked}
 use Rattle.wire.specs.declared.Command.{Command}
 use Rattle.ranges.specs.Range.{addressInRange, entriesInRange}
-use Rattle.status.specs.declared.Status.the-variants.{Done, Unavailable}
-use Rattle.registers.specs.Registers.{withDepth, moved, next, nextAddress}
+use Rattle.status.specs.declared.Status.the-variants.{Unavailable}
+use Rattle.registers.specs.Registers.{withDepth, moved, nextAddress}
 use Rattle.registers.specs.Range.{coreInRange}
 use Rattle.registers.specs.declared.Core.{Core}
 use Rattle.registers.proofs.Addresses.{next-low}
-use Rattle.stack.specs.Stack.{stack, taken, pushed, popped}
+use Rattle.stack.specs.Stack.{pushed, popped}
 use Rattle.stack.specs.Laws as stack-laws
 use Rattle.stack.specs.declared.Stack.{Stack}
 use Rattle.stack.specs.declared.Popped.{Popped}
 use Rattle.stack.proofs.Entries as stack-rules
-use Rattle.jumping.specs.Jump.{jumps, addressOf}
+use Rattle.jumping.specs.Jump.{addressOf}
 use Rattle.jumping.proofs.Addresses.{address-in}
 use Rattle.waiting.specs.Waiting.{waited}
 use Rattle.waiting.specs.declared.Waited.{Waited}
 use Rattle.waiting.specs.declared.Waited.the-variants.{Refused, Passed, TimedOut, Holding}
-use Rattle.flow.specs.Flow.{Flow, flow, at, refused, jumped, called, returned, halted, timedOut, afterWait, waitedStep, flowed}
+use Rattle.flow.specs.Flow.{Flow, flow, refused, jumped, called, returned, halted, timedOut, afterWait, waitedStep, flowed}
 use Rattle.flow.specs.declared.Flowed.{Flowed}
+use Rattle.flow.proofs.Cases.{by-command}
 use Rattle.keeping.proofs.Elements.{every-set, every-get}
 use Rattle.keeping.proofs.Cores.{whole, parts, moved-in-range, next-in-range, passed-in-range}
 
@@ -38,21 +38,18 @@ module _ (e : List ℕ) (h : entriesInRange e ≡ true) where
   pushed-in-range : (d a : ℕ) → a ≤ 1024 → entriesInRange (pushed e d a .entries) ≡ true
   unfolding pushed entriesInRange
   pushed-in-range d a l =
-      picked (λ (s : Stack). entriesInRange (s .entries) ≡ true) (ltb d 8) (stack (set e d a) (d + 1)) (stack e d)
-      (λ _. every-set addressInRange e d a h (le-leb a 1024 l)) h
+      picked (λ (s : Stack). entriesInRange (s .entries) ≡ true) (ltb d 8) _ _ (λ _. every-set addressInRange e d a h (le-leb a 1024 l)) h
 
   popped-in-range : (d : ℕ) → entriesInRange (popped e d .stack .entries) ≡ true
   unfolding popped entriesInRange
   popped-in-range d =
-      picked (λ (s : Popped). entriesInRange (s .stack .entries) ≡ true) (ltb 0 d && leb d 8)
-      (taken (set e (d - 1) 0) (d - 1) (getD e (d - 1) 0)) (taken e d 0)
+      picked (λ (s : Popped). entriesInRange (s .stack .entries) ≡ true) (ltb 0 d && leb d 8) _ _
       (λ _. every-set addressInRange e (d - 1) 0 h refl) h
 
   back-low : (d : ℕ) → popped e d .back ≤ 1024
   unfolding popped entriesInRange
   back-low d =
-      picked (λ (s : Popped). s .back ≤ 1024) (ltb 0 d && leb d 8)
-      (taken (set e (d - 1) 0) (d - 1) (getD e (d - 1) 0)) (taken e d 0)
+      picked (λ (s : Popped). s .back ≤ 1024) (ltb 0 d && leb d 8) _ _
       (λ _. leb-true (getD e (d - 1) 0) 1024 (every-get addressInRange e (d - 1) 0 h refl)) (omega arith)
 
 -- ---- the commands
@@ -64,8 +61,7 @@ module _ (c : Core) (h : coreInRange c ≡ true) where
   jumped-in-range : (taken : Bool) (z : ℤ) → coreInRange (jumped taken z c .core) ≡ true
   unfolding jumped
   jumped-in-range taken z =
-      picked (λ (r : Flowed). coreInRange (r .core) ≡ true) taken (at Done (moved (addressOf z) c)) (at Done (next c))
-      (λ _. moved-in-range c h (addressOf z) (address-in z)) (next-in-range c h)
+      picked (λ (r : Flowed). coreInRange (r .core) ≡ true) taken _ _ (λ _. moved-in-range c h (addressOf z) (address-in z)) (next-in-range c h)
 
   wait-in-range : (w : Waited) → coreInRange (afterWait w c .core) ≡ true
   unfolding coreInRange
@@ -96,9 +92,7 @@ module _ (c : Core) (h : coreInRange c ≡ true) where
         let l : stack-laws.Laws = stack-rules.laws in
         let a = nextAddress (c .address) in
         let s = pushed e (c .depth) a in
-        picked Kept (leb 8 (c .depth)) (flow (refused Unavailable c) e)
-        (flow (at Done (withDepth (s .depth) (moved (addressOf z) c))) (s .entries))
-        (λ _. refused-kept)
+        picked Kept (leb 8 (c .depth)) _ _ (λ _. refused-kept)
         (record {
           core = placed-in-range (addressOf z) (s .depth) (address-in z) (l .push-depth e (c .depth) a (parts c h .depth));
           entries = pushed-in-range e g (c .depth) a (next-low (c .address) (parts c h .address));
@@ -109,28 +103,20 @@ module _ (c : Core) (h : coreInRange c ≡ true) where
     returned-kept =
         let l : stack-laws.Laws = stack-rules.laws in
         let s = popped e (c .depth) in
-        picked Kept (eqb (c .depth) 0) (flow (refused Unavailable c) e)
-        (flow (at Done (withDepth (s .stack .depth) (moved (s .back) c))) (s .stack .entries))
-        (λ _. refused-kept)
+        picked Kept (eqb (c .depth) 0) _ _ (λ _. refused-kept)
         (record {
           core = placed-in-range (s .back) (s .stack .depth) (back-low e g (c .depth)) (l .pop-depth e (c .depth) (parts c h .depth));
           entries = popped-in-range e g (c .depth);
         })
 
     pub flowed-kept : (r : Command) (values : List ℤ) → Kept (flowed r c e values)
-    unfolding flowed
     flowed-kept r values =
-        let n = r .number in
-        let z = r .value .v in
-        let j = jumps (r .kind) (c .accumulator .v) (c .last) (c .flags) in
-        let wait = flow (waitedStep (r .kind) (r .value) c values) e in
-        let from-27 = pick (eqb n 27) wait (halted c) in
-        let from-24 = pick (eqb n 24) (returned c e) from-27 in
-        let from-23 = pick (eqb n 23) (called z c e) from-24 in
-        let from-22 = pick (eqb n 22) (flow (jumped true z c) e) from-23 in
-        picked Kept (eqb n 21) (flow (jumped j z c) e) from-22 (λ _. record { core = jumped-in-range j z; entries = g })
-        (picked Kept (eqb n 22) (flow (jumped true z c) e) from-23 (λ _. record { core = jumped-in-range true z; entries = g })
-        (picked Kept (eqb n 23) (called z c e) from-24 (λ _. called-kept z)
-        (picked Kept (eqb n 24) (returned c e) from-27 (λ _. returned-kept)
-        (picked Kept (eqb n 27) wait (halted c) (λ _. record { core = waited-in-range (r .kind) (r .value) values; entries = g })
-        halted-kept))))
+        by-command r c e values Kept
+        (record {
+          jc = λ b _. record { core = jumped-in-range b (r .value .v); entries = g };
+          ja = λ _. record { core = jumped-in-range true (r .value .v); entries = g };
+          csub = λ _. called-kept (r .value .v);
+          rsub = λ _. returned-kept;
+          wait = λ _. record { core = waited-in-range (r .kind) (r .value) values; entries = g };
+          stop = halted-kept;
+        })

@@ -1,9 +1,9 @@
 -- A step leaves a wait armed exactly if it is a WAIT that holds. Assumes nothing.
 use Prim.Native.Nat.{ℕ}
-use mathlib.Core.Path.{_≡_, refl, sym, _∙_}
-use mathlib.Core.Bool.{Bool, true, false, not, true≢false, _&&_}
+use mathlib.Core.Path.{_≡_, refl}
+use mathlib.Core.Bool.{Bool, true, false, not, _&&_}
 use mathlib.Core.List.{List}
-use borrow.Author.Tests.{eqb-true}
+use borrow.Author.Tests.{eqb-true, eqb-false}
 use lib.Dec.{eqb, leb}
 use lib.IntN.{ℤ}
 use Rattle.words.specs.Word.{pick}
@@ -11,22 +11,20 @@ use Rattle.words.specs.declared.Word.{Word}
 use Rattle.words.proofs.Bools.{picked}
 use Rattle.wire.specs.declared.Command.{Command}
 use Rattle.store.specs.Store.{recordAt}
-use Rattle.registers.specs.Registers.{moved, next, nextAddress, stopped, withDepth}
+use Rattle.registers.specs.Registers.{next, stopped}
 use Rattle.registers.specs.declared.Core.{Core}
 use Rattle.waits.specs.declared.Wait.{Wait}
 use Rattle.status.specs.Status.{isDone, isUnknown}
 use Rattle.status.specs.declared.Status.{Status}
-use Rattle.status.specs.declared.Status.the-variants.{Done, Value, Unavailable}
+use Rattle.status.specs.declared.Status.the-variants.{Value}
 use Rattle.status.proofs.Statuses.{by-status}
-use Rattle.stack.specs.Stack.{pushed, popped}
-use Rattle.jumping.specs.Jump.{jumps, addressOf}
 use Rattle.waiting.specs.Waiting.{happened, notNegative, armedFrom, armedWith, tested, waited}
 use Rattle.waiting.specs.declared.Waited.{Waited}
-use Rattle.waiting.specs.declared.Waited.the-variants.{Refused, Passed, TimedOut, Holding}
-use Rattle.judge.specs.Judge.{judged, isFlow, isReading}
-use Rattle.flow.specs.Flow.{Flow, flow, at, refused, jumped, called, returned, halted, afterWait, waitedStep, flowed}
-use Rattle.deciding.specs.Deciding.{worked}
-use Rattle.stepping.specs.Step.{State, Pins, After, after, only, loaded, afterFlow, afterWork, carried, obeyed, step}
+use Rattle.judge.specs.Judge.{judged, isFlow}
+use Rattle.flow.specs.Flow.{Flow, flow, jumped, called, returned, halted, afterWait, waitedStep, flowed}
+use Rattle.flow.proofs.Cases.{by-command}
+use Rattle.stepping.specs.Step.{State, Pins, After, after, only, carried, obeyed, step}
+use Rattle.stepping.proofs.Cases.{by-carried}
 use Rattle.keeping.specs.Laws.{isHolding, holds}
 
 -- ---- a WAIT
@@ -37,19 +35,15 @@ module _ (c : Core) where
   tested-tells : (kind : ℕ) (values : List ℤ) (w : Wait) → w .armed ≡ true → Tells (tested kind values w)
   unfolding tested
   tested-tells kind values w e =
-      picked Tells (eqb kind 0) (pick (eqb (w .count) 0) Passed (Holding w))
-      (pick (happened kind values) Passed (pick (w .timed && eqb (w .count) 0) TimedOut (Holding w)))
-      (λ _. picked Tells (eqb (w .count) 0) Passed (Holding w) (λ _. refl) e)
-      (picked Tells (happened kind values) Passed (pick (w .timed && eqb (w .count) 0) TimedOut (Holding w)) (λ _. refl)
-      (picked Tells (w .timed && eqb (w .count) 0) TimedOut (Holding w) (λ _. refl) e))
+      picked Tells (eqb kind 0) _ _ (λ _. picked Tells (eqb (w .count) 0) _ _ (λ _. refl) e)
+      (picked Tells (happened kind values) _ _ (λ _. refl) (picked Tells (w .timed && eqb (w .count) 0) _ _ (λ _. refl) e))
 
   waited-tells : (kind : ℕ) (value : Word) (values : List ℤ) → Tells (waited kind value (c .accumulator) values (c .wait))
   unfolding waited
   waited-tells kind value values =
       let z = armedFrom kind value (c .accumulator) .v in
-      picked Tells (c .wait .armed) (tested kind values (c .wait)) (pick (notNegative z) (tested kind values (armedWith z)) Refused)
-      (tested-tells kind values (c .wait))
-      (picked Tells (notNegative z) (tested kind values (armedWith z)) Refused (λ _. tested-tells kind values (armedWith z) refl) refl)
+      picked Tells (c .wait .armed) _ _ (tested-tells kind values (c .wait))
+      (picked Tells (notNegative z) _ _ (λ _. tested-tells kind values (armedWith z) refl) refl)
 
 -- ---- the other commands of the program's flow
 abbrev Free : Flow → Type 0
@@ -62,37 +56,27 @@ jumped-free false z c e = refl
 
 called-free : (z : ℤ) (c : Core) (e : List ℕ) → Free (called z c e)
 unfolding called
-called-free z c e =
-    picked Free (leb 8 (c .depth)) (flow (refused Unavailable c) e)
-    (flow (at Done (withDepth (pushed e (c .depth) (nextAddress (c .address)) .depth) (moved (addressOf z) c)))
-    (pushed e (c .depth) (nextAddress (c .address)) .entries)) (λ _. refl) refl
+called-free z c e = picked Free (leb 8 (c .depth)) _ _ (λ _. refl) refl
 
 returned-free : (c : Core) (e : List ℕ) → Free (returned c e)
 unfolding returned
-returned-free c e =
-    picked Free (eqb (c .depth) 0) (flow (refused Unavailable c) e)
-    (flow (at Done (withDepth (popped e (c .depth) .stack .depth) (moved (popped e (c .depth) .back) c)))
-    (popped e (c .depth) .stack .entries)) (λ _. refl) refl
+returned-free c e = picked Free (eqb (c .depth) 0) _ _ (λ _. refl) refl
 
 halted-free : (c : Core) → Free (halted c)
 unfolding halted
 halted-free c = refl
 
 flowed-free : (r : Command) (c : Core) (e : List ℕ) (values : List ℤ) → eqb (r .number) 27 ≡ false → Free (flowed r c e values)
-unfolding flowed
 flowed-free r c e values h =
-    let n = r .number in
-    let w = flow (waitedStep (r .kind) (r .value) c values) e in
-    let j = flow (jumped true (r .value .v) c) e in
-    picked Free (eqb n 21) (flow (jumped (jumps (r .kind) (c .accumulator .v) (c .last) (c .flags)) (r .value .v) c) e)
-    (pick (eqb n 22) j (pick (eqb n 23) (called (r .value .v) c e) (pick (eqb n 24) (returned c e) (pick (eqb n 27) w (halted c)))))
-    (λ _. jumped-free (jumps (r .kind) (c .accumulator .v) (c .last) (c .flags)) (r .value .v) c e)
-    (picked Free (eqb n 22) j (pick (eqb n 23) (called (r .value .v) c e) (pick (eqb n 24) (returned c e) (pick (eqb n 27) w (halted c))))
-    (λ _. jumped-free true (r .value .v) c e)
-    (picked Free (eqb n 23) (called (r .value .v) c e) (pick (eqb n 24) (returned c e) (pick (eqb n 27) w (halted c)))
-    (λ _. called-free (r .value .v) c e)
-    (picked Free (eqb n 24) (returned c e) (pick (eqb n 27) w (halted c)) (λ _. returned-free c e)
-    (picked Free (eqb n 27) w (halted c) (λ t. absurd (true≢false (sym t ∙ h))) (halted-free c)))))
+    by-command r c e values Free
+    (record {
+      jc = λ b _. jumped-free b (r .value .v) c e;
+      ja = λ _. jumped-free true (r .value .v) c e;
+      csub = λ _. called-free (r .value .v) c e;
+      rsub = λ _. returned-free c e;
+      wait = λ q. absurd (eqb-false (r .number) 27 h q);
+      stop = halted-free c;
+    })
 
 -- ---- a record that the judge lets through
 abbrev armed : After → Bool
@@ -107,14 +91,9 @@ module _ (r : Command) (p : Pins) (x : State) where
   wait-armed e = rw e (waited-tells (x .core) (r .kind) (r .value) (x .values))
 
   other-armed : eqb (r .number) 27 ≡ false → armed (carried r p x) ≡ false
-  unfolding carried
   other-armed h =
-      let f = afterFlow (flowed r (x .core) (x .entries) (x .values)) x in
-      let l = after Done (only (loaded r (x .core) (x .values) (x .outputs) (p .digital) (p .analog) .core) x) in
-      let w = afterWork (worked r (x .core) (x .values) (x .outputs) (x .store)) x in
-      picked (λ (y : After). armed y ≡ false) (isFlow (r .number)) f (pick (isReading (r .number)) l w)
-      (λ _. flowed-free r (x .core) (x .entries) (x .values) h)
-      (picked (λ (y : After). armed y ≡ false) (isReading (r .number)) l w (λ _. refl) refl)
+      by-carried p x (λ y. armed y ≡ false) r
+      (record { flow = flowed-free r (x .core) (x .entries) (x .values) h; reading = λ _. refl; work = λ _. refl })
 
   carried-held : (b : Bool) → eqb (r .number) 27 ≡ b → armed (carried r p x) ≡ b && held
   carried-held true e = wait-armed (eqb-true (r .number) 27 e)

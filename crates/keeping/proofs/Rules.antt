@@ -10,7 +10,6 @@ use lib.ListN.{length, getD}
 use mir.Syntax.{w32}
 use mir.Val.{SFits}
 use mir.ValLaws.{toZ-fits}
-use Rattle.words.specs.Word.{pick}
 use Rattle.words.specs.Bytes.{wordOf, wordAt}
 use Rattle.words.specs.Laws.{AllBytes}
 use Rattle.words.proofs.Bools.{picked}
@@ -19,14 +18,14 @@ use Rattle.wire.specs.declared.Command.{Command}
 use Rattle.store.specs.Store.{recordAt, zeroRecord}
 use Rattle.registers.specs.Registers.{next, stopped}
 use Rattle.registers.specs.Range.{coreInRange}
-use Rattle.status.specs.Status.{isDone, isUnknown}
+use Rattle.status.specs.Status.{isDone}
 use Rattle.status.specs.declared.Status.{Status}
-use Rattle.status.specs.declared.Status.the-variants.{Done, Unavailable, Value}
-use Rattle.judge.specs.Judge.{judged, isFlow, isReading}
-use Rattle.flow.specs.Flow.{flowed}
+use Rattle.status.specs.declared.Status.the-variants.{Done, Unavailable}
+use Rattle.judge.specs.Judge.{judged}
 use Rattle.effects.specs.Effects.{Work}
 use Rattle.deciding.specs.Deciding.{decided, worked}
-use Rattle.stepping.specs.Step.{State, Pins, After, after, only, loaded, afterFlow, afterWork, carried, obeyed, step}
+use Rattle.stepping.specs.Step.{State, Pins, After, only, loaded, step}
+use Rattle.stepping.proofs.Cases.{by-carried, by-obeyed, by-step}
 use Rattle.running.specs.Run.{Progress, advanced, goesOn, run}
 use Rattle.directing.specs.Direct.{Direct, directed}
 use Rattle.directing.proofs.Cases.{by-command}
@@ -52,25 +51,23 @@ record-fits p a b =
     (λ _. value-fits p (a * 7 + 3) b) (record { sfits = omega arith })
 
 -- ---- work
-worked-sound : (c : Command) (x : State) → isDone (judged c) ≡ true → SFits w32 (c .value .v) → Sound x
-    → Sound (leaves (worked c (x .core) (x .values) (x .outputs) (x .store)) (x .entries))
-unfolding worked
-worked-sound c x h f s = applied-sound x s (decided c (x .core) (x .values)) (decided-good c (x .core) (x .values) h f (s .core))
-
-worked-store : (c : Command) (x : State) → length (worked c (x .core) (x .values) (x .outputs) (x .store) .store) ≡ length (x .store)
-unfolding worked
-worked-store c x = applied-store (x .core) (x .values) (x .outputs) (x .store) (decided c (x .core) (x .values))
-
-worked-refused : (c : Command) (x : State) → isDone (worked c (x .core) (x .values) (x .outputs) (x .store) .status) ≡ false
-    → leaves (worked c (x .core) (x .values) (x .outputs) (x .store)) (x .entries) ≡ x
-unfolding worked
-worked-refused c x = applied-refused x (decided c (x .core) (x .values))
-
--- ---- direct commands
 module _ (c : Command) (x : State) where
   abbrev work : Work
   work = worked c (x .core) (x .values) (x .outputs) (x .store)
 
+  worked-sound : isDone (judged c) ≡ true → SFits w32 (c .value .v) → Sound x → Sound (leaves work (x .entries))
+  unfolding worked
+  worked-sound h f s = applied-sound x s (decided c (x .core) (x .values)) (decided-good c (x .core) (x .values) h f (s .core))
+
+  worked-store : length (work .store) ≡ length (x .store)
+  unfolding worked
+  worked-store = applied-store (x .core) (x .values) (x .outputs) (x .store) (decided c (x .core) (x .values))
+
+  worked-refused : isDone (work .status) ≡ false → leaves work (x .entries) ≡ x
+  unfolding worked
+  worked-refused = applied-refused x (decided c (x .core) (x .values))
+
+  -- ---- direct commands
   module _ (digital : List ℕ) (analog : List ℤ) where
     abbrev here : Direct
     here = directed c (x .core) (x .values) (x .outputs) digital analog (x .store)
@@ -83,43 +80,15 @@ module _ (c : Command) (x : State) where
         (record { flow = same Unavailable; not-through = λ _. same (judged c); reading = same Done; done = λ h _. works h; failed = λ h _. works h })
 
     direct-sound : SFits w32 (c .value .v) → Sound x → Sound (left here (x .entries))
-    direct-sound f s = by-direct (λ _. Sound) (λ _. s) (λ h. worked-sound c x h f s)
+    direct-sound f s = by-direct (λ _. Sound) (λ _. s) (λ h. worked-sound h f s)
 
     direct-store : length (here .store) ≡ length (x .store)
-    direct-store = by-direct (λ _ y. length (y .store) ≡ length (x .store)) (λ _. refl) (λ _. worked-store c x)
+    direct-store = by-direct (λ _ y. length (y .store) ≡ length (x .store)) (λ _. refl) (λ _. worked-store)
 
     direct-refused : isDone (here .status) ≡ false → left here (x .entries) ≡ x
-    direct-refused = by-direct (λ s y. isDone s ≡ false → y ≡ x) (λ _ _. refl) (λ _. worked-refused c x)
+    direct-refused = by-direct (λ s y. isDone s ≡ false → y ≡ x) (λ _ _. refl) (λ _. worked-refused)
 
 -- ---- steps
--- what holds after a stop, after the next record, after the program's flow, after a reading and after the work of a command that the
--- judge has let through holds after a step
-module _ (p : Pins) (x : State) (P : State → Type 0) (halt : P (only (stopped (x .core)) x)) where
-  by-obeyed : (r : Command) → P (only (next (x .core)) x)
-      → P (afterFlow (flowed r (x .core) (x .entries) (x .values)) x .state)
-      → P (only (loaded r (x .core) (x .values) (x .outputs) (p .digital) (p .analog) .core) x)
-      → (isDone (judged r) ≡ true → P (afterWork (worked r (x .core) (x .values) (x .outputs) (x .store)) x .state))
-      → P (obeyed r p x .state)
-  unfolding obeyed carried
-  by-obeyed r goes flows reads works =
-      let Q : After → Type 0 = λ a. P (a .state) in
-      let unknown = after (judged r) (only (stopped (x .core)) x) in
-      let not-through = after (judged r) (only (next (x .core)) x) in
-      let flowing = afterFlow (flowed r (x .core) (x .entries) (x .values)) x in
-      let reading = after Done (only (loaded r (x .core) (x .values) (x .outputs) (p .digital) (p .analog) .core) x) in
-      let working = afterWork (worked r (x .core) (x .values) (x .outputs) (x .store)) x in
-      picked Q (isUnknown (judged r)) unknown (pick (isDone (judged r)) (carried r p x) not-through) (λ _. halt)
-      (picked Q (isDone (judged r)) (carried r p x) not-through
-      (λ h. picked Q (isFlow (r .number)) flowing (pick (isReading (r .number)) reading working) (λ _. flows)
-      (picked Q (isReading (r .number)) reading working (λ _. reads) (works h)))
-      goes)
-
-  by-step : (program : List ℕ) → P (obeyed (recordAt program (x .core .address)) p x .state) → P (step program p x .state)
-  unfolding step
-  by-step program goes =
-      picked (λ (a : After). P (a .state)) (leb 1024 (x .core .address)) (after Value (only (stopped (x .core)) x))
-      (obeyed (recordAt program (x .core .address)) p x) (λ _. halt) goes
-
 goes-on : (x : State) → Sound x → Sound (only (next (x .core)) x)
 goes-on x s = with-core x s (next (x .core)) (x .store) (next-in-range (x .core) (s .core))
 
@@ -128,21 +97,24 @@ module _ (program : List ℕ) (p : Pins) where
   unfolding coreInRange
   step-sound x b s =
       let r = recordAt program (x .core .address) in
+      let P : After → Type 0 = λ y. Sound (y .state) in
       let stop = with-core x s (stopped (x .core)) (x .store) (stopped-in-range (x .core) (s .core)) in
       let f = flowed-kept (x .core) (s .core) (x .entries) (s .entries) r (x .values) in
-      by-step p x Sound stop program
-      (by-obeyed p x Sound stop r
-      (goes-on x s)
-      (record { core = f .core; entries = f .entries; values = s .values; size = s .size; outputs = s .outputs })
-      (with-core x s (loaded r (x .core) (x .values) (x .outputs) (p .digital) (p .analog) .core) (x .store) (next-in-range (x .core) (s .core)))
-      (λ h. goes-on (leaves (worked r (x .core) (x .values) (x .outputs) (x .store)) (x .entries))
-      (worked-sound r x h (record-fits program (x .core .address) b) s)))
+      by-step p x P program stop
+      (by-obeyed p x P r stop (goes-on x s)
+      (λ h. by-carried p x P r
+      (record {
+        flow = record { core = f .core; entries = f .entries; values = s .values; size = s .size; outputs = s .outputs };
+        reading = λ _. with-core x s (loaded r (x .core) (x .values) (x .outputs) (p .digital) (p .analog) .core) (x .store) (next-in-range (x .core) (s .core));
+        work = λ _. goes-on (leaves (work r x) (x .entries)) (worked-sound r x h (record-fits program (x .core .address) b) s);
+      })))
 
   step-store : (x : State) → length (step program p x .state .store) ≡ length (x .store)
   step-store x =
-      let P : State → Type 0 = λ y. length (y .store) ≡ length (x .store) in
       let r = recordAt program (x .core .address) in
-      by-step p x P refl program (by-obeyed p x P refl r refl refl refl (λ _. worked-store r x))
+      let P : After → Type 0 = λ y. length (y .state .store) ≡ length (x .store) in
+      by-step p x P program refl
+      (by-obeyed p x P r refl refl (λ _. by-carried p x P r (record { flow = refl; reading = λ _. refl; work = λ _. worked-store r x })))
 
   run-sound : (alone : Bool) (n : ℕ) (x : Progress) → AllBytes program → Sound (x .state) → Sound (run alone program p n x .state)
   unfolding run

@@ -1,7 +1,7 @@
 -- A step at a bad point has the status that the check names. Assumes nothing.
 use Prim.Native.Nat.{ℕ}
-use mathlib.Core.Path.{_≡_, refl}
-use mathlib.Core.Bool.{Bool, true, false, _&&_}
+use mathlib.Core.Path.{_≡_, refl, sym, _∙_}
+use mathlib.Core.Bool.{Bool, true, false, true≢false, _&&_}
 use mathlib.Core.List.{List}
 use lib.Dec.{eqb, leb}
 use borrow.Author.Tests.{eqb-true}
@@ -9,8 +9,8 @@ use Rattle.words.specs.Word.{pick}
 use Rattle.words.proofs.Bools.{each, picked, either}
 use Rattle.wire.specs.declared.Command.{Command}
 use Rattle.store.specs.Store.{recordAt}
-use Rattle.registers.specs.Registers.{next, stopped}
-use Rattle.status.specs.Status.{isDone, isUnknown}
+use Rattle.registers.specs.Registers.{stopped}
+use Rattle.status.specs.Status.{isDone}
 use Rattle.status.specs.declared.Status.{Status}
 use Rattle.status.specs.declared.Status.the-variants.{Done, Value, Unavailable}
 use Rattle.status.proofs.Statuses.{is-done}
@@ -18,7 +18,8 @@ use Rattle.points.specs.Points.{point}
 use Rattle.points.specs.declared.Point.{Point}
 use Rattle.judge.specs.Judge.{judged, isFlow}
 use Rattle.flow.specs.Flow.{called, returned, flowed}
-use Rattle.stepping.specs.Step.{State, Pins, After, after, only, carried, obeyed, step}
+use Rattle.stepping.specs.Step.{State, Pins, after, only, carried, obeyed, step}
+use Rattle.stepping.proofs.Cases.{by-obeyed}
 use Rattle.leading.specs.Leading.{byDepth, recordStatus, statusAt}
 
 module _ (r : Command) (p : Pins) (x : State) where
@@ -43,19 +44,14 @@ module _ (r : Command) (p : Pins) (x : State) where
       let P : Status → Type 0 = λ s. (s ≡ Done → ⊥) → carried r p x .status ≡ s in
       let call = eqb (r .number) 23 && leb 8 d in
       let back = eqb (r .number) 24 && eqb d 0 in
-      picked P call Unavailable (pick back Unavailable Done)
+      picked P call _ _
       (λ e _. let t = each (eqb (r .number) 23) (leb 8 d) e in call-full (eqb-true (r .number) 23 (t .0)) (t .1))
-      (picked P back Unavailable Done
+      (picked P back _ _
       (λ e _. let t = each (eqb (r .number) 24) (eqb d 0) e in return-none (eqb-true (r .number) 24 (t .0)) (t .1))
       (λ n. absurd (n refl)))
 
   refused-status : isDone (judged r) ≡ false → obeyed r p x .status ≡ judged r
-  unfolding obeyed
-  refused-status f =
-      let P : After → Type 0 = λ y. y .status ≡ judged r in
-      let later = after (judged r) (only (next (x .core)) x) in
-      picked P (isUnknown (judged r)) (after (judged r) (only (stopped (x .core)) x)) (pick (isDone (judged r)) (carried r p x) later) (λ _. refl)
-      (simp f)
+  refused-status f = by-obeyed p x (λ y. y .status ≡ judged r) r refl refl (λ e. absurd (true≢false (sym e ∙ f)))
 
   obeyed-carried : isDone (judged r) ≡ true → obeyed r p x ≡ carried r p x
   unfolding obeyed
@@ -65,9 +61,7 @@ module _ (r : Command) (p : Pins) (x : State) where
   unfolding recordStatus
   by-record =
       let P : Status → Type 0 = λ s. (s ≡ Done → ⊥) → obeyed r p x .status ≡ s in
-      either P (isDone (judged r)) (byDepth r here) (judged r)
-      (λ e n. rw (obeyed-carried e) (by-depth n))
-      (λ f _. refused-status f)
+      either P (isDone (judged r)) _ _ (λ e n. rw (obeyed-carried e) (by-depth n)) (λ f _. refused-status f)
 
 pub named : (program : List ℕ) (p : Pins) (x : State) → (statusAt program (point (x .core .address) (x .core .depth)) ≡ Done → ⊥)
     → step program p x .status ≡ statusAt program (point (x .core .address) (x .core .depth))

@@ -15,7 +15,7 @@ use Rattle.words.proofs.Bools.{picked}
 use Rattle.wire.specs.declared.Command.{Command}
 use Rattle.store.specs.Store.{recordAt}
 use Rattle.registers.specs.Registers.{nextAddress}
-use Rattle.stack.specs.Stack.{pushed, popped, stack}
+use Rattle.stack.specs.Stack.{pushed, popped}
 use Rattle.jumping.specs.Jump.{addressOf}
 use Rattle.status.specs.Status.{isDone}
 use Rattle.status.specs.declared.Status.the-variants.{Done}

@@ -7,12 +7,11 @@ use mathlib.Core.List.{List}
 use lib.Dec.{eqb}
 use borrow.Author.Tests.{eqb-true, ne-eqb, lt-leb}
 use Rattle.words.specs.Word.{pick}
-use Rattle.words.proofs.Bools.{or-else, picked, either}
+use Rattle.words.proofs.Bools.{or-else}
 use Rattle.wire.specs.declared.Command.{Command}
 use Rattle.store.specs.Store.{recordAt}
 use Rattle.registers.specs.Registers.{nextAddress}
 use Rattle.registers.specs.declared.Core.{Core}
-use Rattle.jumping.specs.Jump as jumping
 use Rattle.waiting.specs.Waiting.{waited}
 use Rattle.waiting.specs.declared.Waited.{Waited}
 use Rattle.waiting.specs.declared.Waited.the-variants.{Refused, Passed, TimedOut, Holding}
@@ -20,14 +19,16 @@ use Rattle.status.specs.Status.{isDone, isUnknown}
 use Rattle.status.specs.declared.Status.{Status}
 use Rattle.status.specs.declared.Status.the-variants.{Done}
 use Rattle.points.specs.Reach.{Safe}
-use Rattle.judge.specs.Judge.{judged, isFlow, isReading}
+use Rattle.judge.specs.Judge.{judged, isFlow}
 use Rattle.effects.specs.Effects.{changed}
 use Rattle.effects.specs.declared.Effect.{Effect}
 use Rattle.effects.specs.declared.Effect.the-variants as effect
 use Rattle.deciding.specs.Deciding.{decided, worked}
 use Rattle.flow.specs.Flow.{Flow, flow, jumped, called, returned, halted, afterWait, waitedStep, flowed}
 use Rattle.flow.specs.Flow as flow
-use Rattle.stepping.specs.Step.{State, Pins, After, after, only, loaded, afterFlow, afterWork, carried, obeyed, step}
+use Rattle.flow.proofs.Cases.{by-command}
+use Rattle.stepping.specs.Step.{State, Pins, After, afterWork, carried, obeyed, step}
+use Rattle.stepping.proofs.Cases.{by-carried}
 use Rattle.running.specs.Run.{Progress, begun, advanced}
 use Rattle.running.specs.Laws.{walked}
 use Rattle.leading.specs.Leading.{wayAt}
@@ -189,22 +190,9 @@ module _ (program : List ℕ) (safe : Safe (wayAt program)) (x : State) (s : Sta
   halt-moved = (stands.begun program, Listed.carried-out)
 
   flow-moved : Moved (flowed r c (x .entries) (x .values))
-  unfolding flowed
   flow-moved =
-      let n = r .number in
-      let j = jumping.jumps (r .kind) (c .accumulator .v) (c .last) (c .flags) in
-      let z = r .value .v in
-      let e = x .entries in
-      let wait = flow.flow (waitedStep (r .kind) (r .value) c (x .values)) e in
-      let from-27 = pick (eqb n 27) wait (halted c) in
-      let from-24 = pick (eqb n 24) (returned c e) from-27 in
-      let from-23 = pick (eqb n 23) (called z c e) from-24 in
-      let from-22 = pick (eqb n 22) (flow.flow (jumped true z c) e) from-23 in
-      picked Moved (eqb n 21) (flow.flow (jumped j z c) e) from-22 (λ q. jc-moved j (eqb-true n 21 q))
-      (picked Moved (eqb n 22) (flow.flow (jumped true z c) e) from-23 (λ q. ja-moved (eqb-true n 22 q))
-      (picked Moved (eqb n 23) (called z c e) from-24 (λ q. call-moved (eqb-true n 23 q))
-      (picked Moved (eqb n 24) (returned c e) from-27 (λ q. return-moved (eqb-true n 24 q))
-      (picked Moved (eqb n 27) wait (halted c) (λ q. waited-moved (eqb-true n 27 q)) halt-moved))))
+      by-command r c (x .entries) (x .values) Moved
+      (record { jc = jc-moved; ja = ja-moved; csub = call-moved; rsub = return-moved; wait = waited-moved; stop = halt-moved })
 
   -- ---- a step
   work-good : Plain (r .number) → Good program r (afterWork (worked r c (x .values) (x .outputs) (x .store)) x)
@@ -217,21 +205,18 @@ module _ (program : List ℕ) (safe : Safe (wayAt program)) (x : State) (s : Sta
       }
 
   carried-good : (p : Pins) → Good program r (carried r p x)
-  unfolding carried
   carried-good p =
-      let G = Good program r in
-      let reading = after Done (only (loaded r c (x .values) (x .outputs) (p .digital) (p .analog) .core) x) in
-      let working = afterWork (worked r c (x .values) (x .outputs) (x .store)) x in
-      let flowing = afterFlow (flowed r c (x .entries) (x .values)) x in
-      either G (isFlow (r .number)) flowing (pick (isReading (r .number)) reading working)
-      (λ _. let m = flow-moved in record { stands = m .0; listed = m .1 })
-      (λ n. let f = plain (r .number) n in
-      picked G (isReading (r .number)) reading working
-      (λ _. record {
-        stands = goes-on program safe a (c .depth) (x .entries) s (f .no-ja) (f .no-stop) (f .no-rsub);
-        listed = Listed.carried-out;
+      by-carried p x (Good program r) r
+      (record {
+        flow = let m = flow-moved in record { stands = m .0; listed = m .1 };
+        reading = λ n.
+            let f = plain (r .number) n in
+            record {
+              stands = goes-on program safe a (c .depth) (x .entries) s (f .no-ja) (f .no-stop) (f .no-rsub);
+              listed = Listed.carried-out;
+            };
+        work = λ n. work-good (plain (r .number) n);
       })
-      (work-good f))
 
   step-carried : (p : Pins) → step program p x ≡ carried r p x
   unfolding step obeyed

@@ -13,7 +13,6 @@ use Rattle.words.specs.Laws.{AllBytes}
 use Rattle.words.specs.declared.Word.{Word}
 use Rattle.words.proofs.Bools.{picked}
 use Rattle.checksum.specs.Checksum.{rightFrame}
-use Rattle.wire.specs.Frame.{commandAt}
 use Rattle.wire.specs.declared.Command.{Command}
 use Rattle.status.specs.Status.{numberOf, isDone}
 use Rattle.status.specs.declared.Status.{Status}
@@ -54,8 +53,8 @@ use Rattle.promises.specs.Commands.{Commands, InRange, carriedOut}
 use Rattle.promises.proofs.Kept.{with-state, sound, obeyed-kept}
 
 -- ---- statuses
-not-done : (s : Status) → carriedOut s ≡ false → isDone s ≡ false
-not-done =
+undone : (s : Status) → carriedOut s ≡ false → isDone s ≡ false
+undone =
     by-status (λ s. carriedOut s ≡ false → isDone s ≡ false) (λ f. absurd (true≢false f)) (λ _. refl) (λ _. refl) (λ _. refl) (λ _. refl)
     (λ _. refl) (λ _. refl) (λ _. refl)
 
@@ -85,7 +84,7 @@ module _ (c : Command) (r : Registers) (p m : List ℕ) where
   control-refused : Refused (outcome (obeyedControl c p r m .obeyed) p (obeyedControl c p r m .store))
   control-refused =
       by-judge c p r m (λ o. Refused (outcome (o .obeyed) p (o .store)))
-      (λ e f. absurd (true≢false (sym e ∙ not-done (judgedControl c r) f))) (λ _ _. refl)
+      (λ e f. absurd (true≢false (sym e ∙ undone (judgedControl c r) f))) (λ _ _. refl)
 
   stored-refused : Refused (outcome (stored c r p .obeyed) (stored c r p .program) m)
   stored-refused = by-stored c r p (λ o. Refused (outcome (o .obeyed) (o .program) m)) (λ _ _. refl) (λ _ f. absurd (true≢false f))
@@ -99,7 +98,7 @@ module _ (c : Command) (r : Registers) (p m : List ℕ) where
   direct-refused f =
       let l : keep-laws.Laws = keeping.laws in
       let d = directed c (r .core) (r .values) (r .outputs) (r .digital) (r .analog) m in
-      let n = not-done (d .status) f in
+      let n = undone (d .status) f in
       let e = l .direct-refused c (r .digital) (r .analog) (stateOf r m) n in
       ap (from (d .status) (d .value)) e ∙ ap (λ (w : Word). from (d .status) w (stateOf r m)) (direct-value c r m n)
 
@@ -144,10 +143,8 @@ Fits (Whole c) = SFits w32 (c .value .v)
 taken-fits : (ours : ℕ) (s : List ℕ) → AllBytes s → Fits (takenOf ours s)
 unfolding takenOf Fits
 taken-fits ours s b =
-    let whole = pick (rightFrame s) (Whole (commandAt s 1)) (Damaged (getD s 1 0)) in
-    picked Fits (eqb (length s) 9) (pick (eqb (getD s 0 0) ours) whole NotOurs) NotOurs
-    (λ _. picked Fits (eqb (getD s 0 0) ours) whole NotOurs
-    (λ _. picked Fits (rightFrame s) (Whole (commandAt s 1)) (Damaged (getD s 1 0)) (λ _. keeping.value-fits s 4 b) tt) tt) tt
+    picked Fits (eqb (length s) 9) _ _
+    (λ _. picked Fits (eqb (getD s 0 0) ours) _ _ (λ _. picked Fits (rightFrame s) _ _ (λ _. keeping.value-fits s 4 b) tt) tt) tt
 
 datagram-in-range : (bytes : List ℕ) (x : Board) → AllBytes bytes → AllBytes (x .program) → InRange (x .registers)
     → InRange (datagram bytes x .board .registers)

@@ -4,13 +4,13 @@ use mathlib.Core.Path.{_≡_}
 use mathlib.Core.Bool.{true, false}
 use mathlib.Core.List.{List}
 use lib.IntN.{ℤ}
+use Rattle.words.specs.declared.Word.{Word}
 use Rattle.words.proofs.Bools.{picked, either}
 use Rattle.wire.specs.declared.Command.{Command}
 use Rattle.registers.specs.declared.Core.{Core}
 use Rattle.status.specs.Status.{isDone}
 use Rattle.status.specs.declared.Status.the-variants.{Done, Unavailable}
 use Rattle.judge.specs.Judge.{judged, isFlow, isReading}
-use Rattle.reading.specs.Reading.{read}
 use Rattle.effects.specs.Effects.{Work}
 use Rattle.deciding.specs.Deciding.{worked}
 use Rattle.directing.specs.Direct.{Direct, direct, refused, answered, answer, changed, directed}
@@ -19,11 +19,11 @@ module _ (c : Command) (core : Core) (v : List ℤ) (o digital : List ℕ) (anal
   abbrev work : Work
   work = worked c core v o m
 
-  -- what holds whatever becomes of it
+  -- what holds whatever becomes of it, and whatever is read
   pub record Each : Type 0 where
     pub flow : P (direct (refused Unavailable core) v o m)
     pub not-through : isDone (judged c) ≡ false → P (direct (refused (judged c) core) v o m)
-    pub reading : P (direct (answered Done (read c core v o digital analog) core) v o m)
+    pub reading : (w : Word) → P (direct (answered Done w core) v o m)
     pub done : isDone (judged c) ≡ true → isDone (work .status) ≡ true
         → P (direct (answered (work .status) (answer c (work .core)) (work .core)) (work .values) (work .outputs) (work .store))
     pub failed : isDone (judged c) ≡ true → isDone (work .status) ≡ false
@@ -35,5 +35,5 @@ module _ (c : Command) (core : Core) (v : List ℤ) (o digital : List ℕ) (anal
   by-command each =
       picked P (isFlow (c .number)) _ _ (λ _. each .flow)
       (either P (isDone (judged c)) _ _
-      (λ h. picked P (isReading (c .number)) _ _ (λ _. each .reading) (either P (isDone (work .status)) _ _ (each .done h) (each .failed h)))
+      (λ h. picked P (isReading (c .number)) _ _ (λ _. each .reading _) (either P (isDone (work .status)) _ _ (each .done h) (each .failed h)))
       (each .not-through))

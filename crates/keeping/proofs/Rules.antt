@@ -77,7 +77,7 @@ module _ (c : Command) (x : State) where
         → (isDone (judged c) ≡ true → P (work .status) (leaves work (x .entries))) → P (here .status) (left here (x .entries))
     by-direct P same works =
         by-command c (x .core) (x .values) (x .outputs) digital analog (x .store) (λ d. P (d .status) (left d (x .entries)))
-        (record { flow = same Unavailable; not-through = λ _. same (judged c); reading = same Done; done = λ h _. works h; failed = λ h _. works h })
+        (record { flow = same Unavailable; not-through = λ _. same (judged c); reading = λ _. same Done; done = λ h _. works h; failed = λ h _. works h })
 
     direct-sound : SFits w32 (c .value .v) → Sound x → Sound (left here (x .entries))
     direct-sound f s = by-direct (λ _. Sound) (λ _. s) (λ h. worked-sound h f s)

@@ -72,7 +72,7 @@ direct-value c r m =
     (record {
       flow = λ _. refl;
       not-through = λ _ _. refl;
-      reading = λ f. absurd (true≢false f);
+      reading = λ _ f. absurd (true≢false f);
       done = λ _ e f. absurd (true≢false (sym e ∙ f));
       failed = λ _ _ _. refl;
     })

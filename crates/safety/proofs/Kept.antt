@@ -146,7 +146,7 @@ module _ (c : Command) (r : Registers) (p m : List ℕ) (safe : Safe (wayAt p)) 
   direct-stood =
       let moved = place-kept (λ a d. Stands p a d (r .entries)) (decided c (r .core) (r .values)) (r .core) h in
       directing.by-command c (r .core) (r .values) (r .outputs) (r .digital) (r .analog) m (λ d. Stands p (d .core .address) (d .core .depth) (r .entries))
-      (record { flow = h; not-through = λ _. h; reading = h; done = λ _ _. moved; failed = λ _ _. moved })
+      (record { flow = h; not-through = λ _. h; reading = λ _. h; done = λ _ _. moved; failed = λ _ _. moved })
 
   obeyed-stood : eqb (numberOf (commands.obeyed c r p m .status)) 100 && fromAnother c ≡ false → Stood p (commands.obeyed c r p m .registers)
   obeyed-stood =

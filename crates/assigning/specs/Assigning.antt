@@ -6,7 +6,8 @@ use lib.Dec.{eqb}
 use lib.IntN.{ℤ}
 use Rattle.words.specs.Word.{pick}
 use Rattle.words.specs.declared.Word.{Word}
-use Rattle.settings.specs.Settings.{axisPlace, settable, kept, isGlobal, guarded, locked}
+use Rattle.sheet.specs.Places.{axisPlace}
+use Rattle.settings.specs.Settings.{settable, kept, isGlobal, guarded, locked}
 use Rattle.status.specs.declared.Status.the-variants.{Value, Locked}
 use Rattle.effects.specs.declared.Effect.{Effect}
 use Rattle.effects.specs.declared.Effect.the-variants.{Refused, Move, Set, Global, Store}

@@ -7,7 +7,8 @@ use lib.IntN.{ℤ}
 use Rattle.words.proofs.Bools.{picked}
 use Rattle.wire.specs.declared.Command.{Command}
 use Rattle.order.specs.Order.{comparedW}
-use Rattle.settings.specs.Settings.{axisPlace, bankPlace}
+use Rattle.sheet.specs.Places.{axisPlace}
+use Rattle.settings.specs.Settings.{bankPlace}
 use Rattle.registers.specs.declared.Core.{Core}
 use Rattle.pins.specs.Pins.{bitOf}
 use Rattle.effects.specs.declared.Effect.{Effect}

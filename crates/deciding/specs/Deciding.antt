@@ -7,7 +7,8 @@ use Rattle.words.specs.Word.{pick}
 use Rattle.words.specs.declared.Word.{Word}
 use Rattle.wire.specs.declared.Command.{Command}
 use Rattle.order.specs.Order.{comparedW}
-use Rattle.settings.specs.Settings.{axisPlace, bankPlace}
+use Rattle.sheet.specs.Places.{axisPlace}
+use Rattle.settings.specs.Settings.{bankPlace}
 use Rattle.registers.specs.declared.Core.{Core}
 use Rattle.flags.specs.declared.Flags.{Flags}
 use Rattle.pins.specs.Pins.{bitOf}

@@ -6,9 +6,8 @@ use lib.IntN.{ℤ, pos}
 use lib.ListN.{set}
 use Rattle.words.specs.Word.{pick, word}
 use Rattle.words.specs.declared.Word.{Word}
-use Rattle.sheet.specs.Sheet.{axis}
 use Rattle.sheet.specs.Rows.{rows, cellOf}
-use Rattle.sheet.specs.Places.{placeIn}
+use Rattle.sheet.specs.Places.{axisPlace}
 use Rattle.store.specs.Store.{putCell}
 use Rattle.values.specs.Values.{valueAt, setValue, poweredAt}
 use Rattle.registers.specs.Registers.{withNumbers, withLast, withMotion, withFlags}
@@ -43,7 +42,7 @@ abbrev pub toPosition : Core → Core
 toPosition c = withMotion (record { order = Position; velocity = word (pos 0) }) c
 
 abbrev pub setPosition : List ℤ → Word → List ℤ
-setPosition v w = setValue v (placeIn axis 50) (w .v)
+setPosition v w = setValue v (axisPlace 50) (w .v)
 
 -- ---- the working values, the outputs and the parameter store
 pub record Arrays : Type 0 where

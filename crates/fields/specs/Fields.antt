@@ -2,17 +2,15 @@
 -- those of "Direct commands" and "Program steps", by their numbers.
 use Prim.Native.Nat.{ℕ}
 use mathlib.Core.Bool.{Bool, true, not, _&&_, _||_}
-use mathlib.Core.List.{_++_}
 use lib.Dec.{eqb, leb, ltb}
 use lib.IntN.{ℤ, pos, negsuc}
 use Rattle.words.specs.Word.{pick}
 use Rattle.wire.specs.declared.Command.{Command}
 use Rattle.order.specs.Order.{sameW, inRange}
 use Rattle.rows.specs.Row.{writes, stored}
-use Rattle.sheet.specs.Sheet.{globals, readOnly}
 use Rattle.sheet.specs.Rows.{rows, rowAt}
-use Rattle.sheet.specs.Places.{placeIn}
-use Rattle.settings.specs.Settings.{axisPlace, bankPlace, settable}
+use Rattle.sheet.specs.Places.{axisPlace, globalIn}
+use Rattle.settings.specs.Settings.{bankPlace, settable}
 use Rattle.status.specs.Status.{inOrder}
 use Rattle.status.specs.declared.Status.{Status}
 use Rattle.jumping.specs.Jump.{isAddress}
@@ -64,10 +62,10 @@ isBank bank = eqb bank 0 || eqb bank 2
 
 -- bank 0: of the six globals 66, 73, 76, 77, 128, 130 all can be read, and the first four set
 unfoldable pub has : ℕ → ℕ → Bool
-has bank n = pick (eqb bank 2) (ltb n 56) (ltb (placeIn (globals ++ readOnly) n) 6)
+has bank n = pick (eqb bank 2) (ltb n 56) (ltb (globalIn n) 6)
 
 unfoldable pub takes : ℕ → ℕ → Bool
-takes bank n = pick (eqb bank 2) (ltb n 56) (ltb (placeIn (globals ++ readOnly) n) 4)
+takes bank n = pick (eqb bank 2) (ltb n 56) (ltb (globalIn n) 4)
 
 -- 9 SGP, 10 GGP, 35 AGP
 unfoldable pub sgp : Command → Status

@@ -15,14 +15,14 @@ use Rattle.ranges.specs.Range.{bitInRange, bitsInRange}
 use Rattle.registers.specs.Range.{coreInRange}
 use Rattle.flags.specs.Flags.{flagsInRange}
 use Rattle.registers.specs.declared.Core.{Core}
-use Rattle.settings.specs.Settings.{axisPlace}
+use Rattle.sheet.specs.Places.{axisPlace}
 use Rattle.status.specs.Status.{isDone}
 use Rattle.effects.specs.Effects.{Work, setOutput, applied}
 use Rattle.effects.specs.declared.Effect.{Effect}
 use Rattle.effects.specs.declared.Effect.the-variants.{Refused, Turn, Move, Set, Global, Store, Restore, Output, Numbers, Last, Clear}
 use Rattle.stepping.specs.Step.{State, state}
 use Rattle.keeping.specs.Sound.{Sound}
-use Rattle.keeping.proofs.Elements.{every-set}
+use Rattle.ranges.proofs.Every.{every-set}
 use Rattle.keeping.proofs.Cores.{flags-in-range}
 use Rattle.keeping.proofs.Settings.{Allowed, restored-allowed}
 

@@ -18,7 +18,8 @@ use Rattle.registers.specs.Range.{coreInRange}
 use Rattle.flags.specs.Flags.{flagsInRange}
 use Rattle.flags.specs.declared.Flags.{Flags}
 use Rattle.registers.specs.declared.Core.{Core}
-use Rattle.settings.specs.Settings.{axisPlace, bankPlace, settable, kept, isGlobal, locked}
+use Rattle.sheet.specs.Places.{axisPlace}
+use Rattle.settings.specs.Settings.{bankPlace, settable, kept, isGlobal, locked}
 use Rattle.status.specs.Status.{isDone}
 use Rattle.status.specs.declared.Status.the-variants.{Value, Locked}
 use Rattle.status.proofs.Statuses.{all-right}

@@ -18,7 +18,8 @@ use Rattle.sheet.specs.Rows.{parameters, rows, rowAt, cellOf}
 use Rattle.sheet.proofs.Rules.{defaults, takes, user-variable}
 use Rattle.store.specs.Store.{cellAt}
 use Rattle.values.specs.Values.{poweredAt}
-use Rattle.settings.specs.Settings.{axisPlace, bankPlace, isKey, settable, kept, isGlobal}
+use Rattle.sheet.specs.Places.{axisPlace}
+use Rattle.settings.specs.Settings.{bankPlace, isKey, settable, kept, isGlobal}
 
 -- a value that the row of its place allows
 abbrev pub Allowed : ℕ → ℤ → Type 0

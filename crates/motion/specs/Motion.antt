@@ -8,8 +8,7 @@ use lib.IntN.{ℤ, pos, negsuc, negℤ, _+ℤ_}
 use Rattle.words.specs.Word.{pick, word}
 use Rattle.words.specs.declared.Word.{Word}
 use Rattle.order.specs.Order.{inRange}
-use Rattle.sheet.specs.Sheet.{axis}
-use Rattle.sheet.specs.Places.{placeIn}
+use Rattle.sheet.specs.Places.{axisPlace}
 use Rattle.values.specs.Values.{valueAt}
 use Rattle.registers.specs.declared.Order.the-variants.{Stopped, Velocity}
 use Rattle.status.specs.declared.Status.the-variants.{Value}
@@ -18,7 +17,7 @@ use Rattle.effects.specs.declared.Effect.the-variants.{Refused, Turn, Move}
 
 -- an axis parameter
 abbrev pub parameter : ℕ → List ℤ → Word
-parameter n values = valueAt values (placeIn axis n)
+parameter n values = valueAt values (axisPlace n)
 
 -- "within plus or minus": both ends belong to it
 unfoldable pub withinLimit : ℤ → ℤ → Bool

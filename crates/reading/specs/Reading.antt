@@ -9,7 +9,8 @@ use Rattle.words.specs.Word.{pick, word}
 use Rattle.words.specs.declared.Word.{Word}
 use Rattle.wire.specs.declared.Command.{Command}
 use Rattle.values.specs.Values.{valueAt}
-use Rattle.settings.specs.Settings.{axisPlace, bankPlace}
+use Rattle.sheet.specs.Places.{axisPlace}
+use Rattle.settings.specs.Settings.{bankPlace}
 use Rattle.registers.specs.declared.Core.{Core}
 
 abbrev pub number : ℕ → Word

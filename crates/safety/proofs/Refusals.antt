@@ -15,7 +15,8 @@ use Rattle.wire.specs.declared.Command.{Command}
 use Rattle.order.specs.Order.{sameW}
 use Rattle.sheet.specs.Sheet.{axis, globals, readOnly}
 use Rattle.sheet.specs.Rows.{parameters}
-use Rattle.settings.specs.Settings.{axisPlace, bankPlace, settable, kept, isGlobal, guarded, locked}
+use Rattle.sheet.specs.Places.{axisPlace}
+use Rattle.settings.specs.Settings.{bankPlace, settable, kept, isGlobal, guarded, locked}
 use Rattle.registers.specs.declared.Core.{Core}
 use Rattle.waits.specs.declared.Wait.{Wait}
 use Rattle.waiting.specs.Waiting.{happened, armedFrom, notNegative, armedWith, tested, waited}

@@ -7,8 +7,7 @@ use lib.IntN.{ℤ, pos}
 use lib.ListN.{getD}
 use Rattle.rows.specs.Row.{allowed}
 use Rattle.sheet.specs.Rows.{rows, rowAt}
-use Rattle.sheet.specs.Sheet.{axis}
-use Rattle.sheet.specs.Places.{placeIn, allBelow}
+use Rattle.sheet.specs.Places.{axisPlace, allBelow}
 use Rattle.values.specs.Values.{setValue}
 use Rattle.pins.specs.Pins.{inputsInRange, signalsInRange}
 use Rattle.sampling.specs.declared.Readings.{Readings}
@@ -33,7 +32,7 @@ settings s =
 
 -- the place of the i-th of them among the working values
 abbrev pub placeOf : ℕ → ℕ
-placeOf i = placeIn axis (getD numbers i 0)
+placeOf i = axisPlace (getD numbers i 0)
 
 -- each is in its parameter's range
 unfoldable pub settingsInRange : List ℤ → Bool

@@ -1,7 +1,7 @@
 -- Setting a working value.
 use Prim.Native.Nat.{ℕ, _+_}
 use mathlib.Core.Bool.{Bool, _&&_, _||_}
-use mathlib.Core.List.{List, _++_}
+use mathlib.Core.List.{List}
 use lib.Dec.{eqb, leb, ltb}
 use lib.IntN.{ℤ, pos}
 use lib.ListN.{length}
@@ -9,19 +9,14 @@ use Rattle.words.specs.Word.{pick, word}
 use Rattle.words.specs.declared.Word.{Word}
 use Rattle.order.specs.Order.{sameW}
 use Rattle.rows.specs.Row.{allowed}
-use Rattle.sheet.specs.Sheet.{axis, globals, readOnly}
+use Rattle.sheet.specs.Sheet.{axis}
 use Rattle.sheet.specs.Rows.{parameters, rows, rowAt}
-use Rattle.sheet.specs.Places.{placeIn}
+use Rattle.sheet.specs.Places.{globalPlace}
 use Rattle.values.specs.Values.{valueAt}
 
--- the place of an axis parameter; 43 where the sheet has none of that number
-abbrev pub axisPlace : ℕ → ℕ
-axisPlace n = placeIn axis n
-
--- bank 0: 66, 73, 76, 77, behind the axis parameters (128 and 130 have no working value, and the place that they get decides
--- nothing); bank 2: "0 to 55", behind all parameters
+-- bank 0: the globals; bank 2: "0 to 55", behind all parameters
 unfoldable pub bankPlace : ℕ → ℕ → ℕ
-bankPlace bank n = pick (eqb bank 2) (length parameters + n) (length axis + placeIn (globals ++ readOnly) n)
+bankPlace bank n = pick (eqb bank 2) (length parameters + n) (globalPlace n)
 
 -- "73 lock (.. set 1234 locks, 4321 unlocks ..)"
 abbrev pub isKey : ℤ → Bool

@@ -12,12 +12,12 @@ use Rattle.words.specs.declared.Word.{Word}
 use Rattle.rows.specs.Row.{allowed, taken, stored}
 use Rattle.sheet.specs.Sheet.{axis, globals, readOnly, rweRows, userRow}
 use Rattle.sheet.specs.Rows.{parameters, rows, rowAt, cells, cellOf}
-use Rattle.sheet.specs.Places.{placeIn}
+use Rattle.sheet.specs.Places.{axisPlace}
 use Rattle.rows.specs.declared.Row.{Row}
 
 -- the axis parameter of a number
 abbrev pub parameter : ℕ → Row
-parameter n = rowAt axis (placeIn axis n)
+parameter n = rowAt axis (axisPlace n)
 
 -- a value of a set
 abbrev pub oneOf : List ℕ → ℤ → Bool

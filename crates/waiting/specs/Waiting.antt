@@ -8,8 +8,7 @@ use lib.IntN.{ℤ, pos, negsuc}
 use Rattle.words.specs.Word.{pick, bitsOf}
 use Rattle.words.specs.declared.Word.{Word}
 use Rattle.order.specs.Order.{sameW, inRange}
-use Rattle.sheet.specs.Sheet.{axis}
-use Rattle.sheet.specs.Places.{placeIn}
+use Rattle.sheet.specs.Places.{axisPlace}
 use Rattle.values.specs.Values.{valueAt}
 use Rattle.waits.specs.declared.Wait.{Wait}
 use Rattle.waiting.specs.declared.Waited.{Waited}
@@ -17,7 +16,7 @@ use Rattle.waiting.specs.declared.Waited.the-variants.{Refused, Passed, 
 
 -- an axis parameter is 1
 unfoldable pub isOn : List ℤ → ℕ → Bool
-isOn values n = sameW (valueAt values (placeIn axis n) .v) (pos 1)
+isOn values n = sameW (valueAt values (axisPlace n) .v) (pos 1)
 
 -- "1 POS (55 is 1), 2 REFSW (213 is 1), 3 LIMSW (211 or 212 is 1)"
 unfoldable pub happened : ℕ → List ℤ → Bool

@@ -4,6 +4,7 @@ use Prim.Native.Nat.{ℕ}
 use mathlib.Core.Path.{_≡_}
 use mathlib.Core.List.{List}
 use lib.ListN.{length}
+use Rattle.store.specs.Store.{programLength}
 use Rattle.status.specs.Status.{numberOf}
 use Rattle.points.specs.Points.{first}
 use Rattle.points.specs.Reach.{Safe, Lowest}
@@ -24,9 +25,9 @@ answerOf (Refused p s) = answer (numberOf s) p
 
 -- a verdict is right for a program store; "20: a lent store or buffer of another length"
 abbrev pub Right : List ℕ → Verdict → Type 0
-Right program Length = length program ≡ 7168 → ⊥
-Right program Passed = (length program ≡ 7168) × Safe (wayAt program)
-Right program (Refused p s) = (length program ≡ 7168) × Lowest (wayAt program) p s
+Right program Length = length program ≡ programLength → ⊥
+Right program Passed = (length program ≡ programLength) × Safe (wayAt program)
+Right program (Refused p s) = (length program ≡ programLength) × Lowest (wayAt program) p s
 
 -- and the numbers are its own
 abbrev pub Checked : List ℕ → Verdict → Answer → Type 0

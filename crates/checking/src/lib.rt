@@ -47,7 +47,7 @@ impl Verdict {
 pub fn check(program: &[u8]) -> Verdict
     ensures { λ r. ⌜ Checked (now (program .entry)) r (answerOf r) ⌝ }
 {
-    if program.len() != 7168 {
+    if !store::is_program_store(program) {
         return Verdict::Length;
     }
     let found = lowest(program);

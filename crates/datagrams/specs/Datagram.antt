@@ -5,6 +5,7 @@ use mathlib.Core.List.{List}
 use lib.Dec.{eqb}
 use lib.IntN.{pos}
 use lib.ListN.{length}
+use Rattle.store.specs.Store.{isProgramStore, isParameterStore}
 use Rattle.words.specs.Word.{pick, word}
 use Rattle.wire.specs.declared.Command.{Command}
 use Rattle.status.specs.Status.{numberOf}
@@ -76,7 +77,7 @@ received (Whole c) x = obeyedBy c x
 
 -- "a program store of 7,168 bytes .., a parameter store of 364 bytes .., a reply buffer of 9"
 abbrev pub lent : List ℕ → List ℕ → List ℕ → Bool
-lent p m b = eqb (length p) 7168 && eqb (length m) 364 && eqb (length b) 9
+lent p m b = isProgramStore p && isParameterStore m && eqb (length b) 9
 
 unfoldable pub datagram : List ℕ → Board → After
 datagram bytes x =

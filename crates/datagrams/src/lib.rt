@@ -28,10 +28,10 @@ pub struct Answered {
 fn lent(program: &[u8], store: &[u8], reply: &[u8]) -> bool
     ensures { λ r. ⌜ r ≡ spec.lent (now (program .entry)) (now (store .entry)) (now (reply .entry)) ⌝ }
 {
-    if program.len() != 7168 {
+    if !store::is_program_store(program) {
         return false;
     }
-    if store.len() != 364 {
+    if !store::is_parameter_store(store) {
         return false;
     }
     reply.len() == 9

@@ -1,8 +1,7 @@
 -- What the events power-up, sample and tick answer and leave: "For the other events 20, then 23 (not at power-up), then 21".
 use Prim.Native.Nat.{ℕ}
 use mathlib.Core.List.{List}
-use lib.Dec.{eqb}
-use lib.ListN.{length}
+use Rattle.store.specs.Store.{isParameterStore}
 use Rattle.words.specs.Word.{pick}
 use Rattle.registers.specs.Registers.{withWait, withFlags}
 use Rattle.flags.specs.Flags.{raised}
@@ -63,7 +62,7 @@ withTick r =
     }
 
 unfoldable pub poweredUp : List ℕ → Registers → Outcome
-poweredUp s r = pick (eqb (length s) 364) (outcome 100 (powered s)) (outcome 20 r)
+poweredUp s r = pick (isParameterStore s) (outcome 100 (powered s)) (outcome 20 r)
 
 unfoldable pub sampled : Sample → Registers → Outcome
 sampled s r =

@@ -26,7 +26,7 @@ pub struct After {
 pub fn power_up(registers: Registers, store: &[u8]) -> After
     ensures { λ r. ⌜ spec.outcomeOf r ≡ spec.poweredUp (now (store .entry)) registers ⌝ }
 {
-    if store.len() != 364 {
+    if !store::is_parameter_store(store) {
         return After {
             registers: registers,
             answer: Answer::Length,

@@ -3,10 +3,11 @@ use Prim.Native.Nat.{ℕ}
 use mathlib.Core.Path.{_≡_}
 use mathlib.Core.Bool.{Bool, true, false, _&&_}
 use mathlib.Core.List.{List}
-use lib.Dec.{eqb, leb}
+use lib.Dec.{leb}
 use lib.ListN.{length}
 use mir.Syntax.{w32}
 use mir.Val.{SFits}
+use Rattle.store.specs.Store.{isProgramStore, isParameterStore}
 use Rattle.words.specs.Laws.{AllBytes}
 use Rattle.wire.specs.declared.Command.{Command}
 use Rattle.status.specs.declared.Status.{Status}
@@ -55,7 +56,7 @@ pub record Commands : Type 0 where
       → datagram bytes x .board ≡ board (x .registers) (x .program) (x .store) (datagram bytes x .board .reply)
   -- a run that is refused, with 20, 23 or 22, changes nothing and makes no step
   pub run-refused : (program : List ℕ) (budget : ℕ) (r : Registers) (m : List ℕ)
-      → eqb (length program) 7168 && eqb (length m) 364 && (registersInRange r && leb budget 1000) ≡ false
+      → isProgramStore program && isParameterStore m && (registersInRange r && leb budget 1000) ≡ false
       → (runs.run program budget r m .registers ≡ r) × (runs.run program budget r m .store ≡ m) × (runs.run program budget r m .steps ≡ 0)
   -- registers in range stay so under every command, datagram and run
   pub command-in-range : (c : Command) (r : Registers) (p m : List ℕ) → SFits w32 (c .value .v) → AllBytes p → InRange r

@@ -7,8 +7,7 @@ use lib.IntN.{ℤ, pos, negsuc}
 use lib.ListN.{take, replicate, set}
 use Rattle.words.specs.Word.{word}
 use Rattle.sheet.specs.Rows.{rows}
-use Rattle.sheet.specs.Places.{placeIn, globalPlace}
-use Rattle.sheet.specs.Sheet.{axis}
+use Rattle.sheet.specs.Places.{axisPlace, globalPlace}
 use Rattle.store.specs.Store.{putCell}
 use Rattle.values.specs.Values.{valueAt}
 use Rattle.values.specs.Examples.{defaultsOf, defaultCells, badCells}
@@ -125,7 +124,7 @@ alarmed = sample (pos 1) (pos 240) (pos 0) (pos 65535) (pos 1) (pos 0)
 
 -- an axis parameter
 abbrev pub axisOf : Registers → ℕ → ℤ
-axisOf r n = valueAt (r .values) (placeIn axis n) .v
+axisOf r n = valueAt (r .values) (axisPlace n) .v
 
 pub record Examples : Type 0 where
   -- ---- power-up: the default cells give the defaults, and so do cells that are all out of range
@@ -176,7 +175,7 @@ pub record Examples : Type 0 where
   pub input-2 : ticked (strange 0 (0 ∷ 2 ∷ []) (replicate 3 (pos 0)) (begun .values)) .status ≡ 23
   pub input-65536 : ticked (strange 0 (0 ∷ 0 ∷ []) (pos 0 ∷ pos 0 ∷ pos 65536 ∷ []) (begun .values)) .status ≡ 23
   pub input-below-0 : ticked (strange 0 (0 ∷ 0 ∷ []) (negsuc 0 ∷ pos 0 ∷ pos 0 ∷ []) (begun .values)) .status ≡ 23
-  pub parameter-102 : ticked (strange 0 (0 ∷ 0 ∷ []) (replicate 3 (pos 0)) (set (begun .values) (placeIn axis 102) (pos 1))) .status ≡ 23
+  pub parameter-102 : ticked (strange 0 (0 ∷ 0 ∷ []) (replicate 3 (pos 0)) (set (begun .values) (axisPlace 102) (pos 1))) .status ≡ 23
   pub global-66 : ticked (strange 0 (0 ∷ 0 ∷ []) (replicate 3 (pos 0)) (set (begun .values) (globalPlace 66) (pos 0))) .status ≡ 23
   -- ---- a user variable and a count are never out of range
   pub user-any : ticked (strange 0 (0 ∷ 0 ∷ []) (replicate 3 (pos 0)) (set (begun .values) 102 (negsuc 2147483647))) .status ≡ 100

@@ -5,6 +5,7 @@ use mathlib.Core.Bool.{true}
 use mathlib.Core.List.{List}
 use lib.IntN.{pos}
 use lib.ListN.{length}
+use Rattle.store.specs.Store.{parameterLength}
 use Rattle.order.specs.Order.{sameW}
 use Rattle.sheet.specs.Rows.{rows}
 use Rattle.sheet.specs.Places.{globalPlace}
@@ -34,7 +35,7 @@ pub record Laws : Type 0 where
   -- the stack is empty then
   pub powered-stack : (s : List ℕ) → stack (powered s .entries) (powered s .core .depth) ≡ emptied
   -- power-up is done whatever registers are handed in
-  pub power-up-done : (s : List ℕ) (r : Registers) → length s ≡ 364 → poweredUp s r ≡ outcome 100 (powered s)
+  pub power-up-done : (s : List ℕ) (r : Registers) → length s ≡ parameterLength → poweredUp s r ≡ outcome 100 (powered s)
   -- a refused event changes nothing
   pub power-up-refused : (s : List ℕ) (r : Registers) → (poweredUp s r .status ≡ 100 → ⊥) → poweredUp s r .registers ≡ r
   pub sample-refused : (s : Sample) (r : Registers) → (sampled s r .status ≡ 100 → ⊥) → sampled s r .registers ≡ r

@@ -7,7 +7,7 @@ use lib.IntN.{ℤ}
 use lib.ListN.{length}
 use Rattle.rows.specs.Row.{writes, stored}
 use Rattle.sheet.specs.Rows.{rows, parameters, rowAt, cellOf}
-use Rattle.store.specs.Store.{cellAt}
+use Rattle.store.specs.Store.{parameterLength, cellAt}
 use Rattle.values.specs.Values.{valueAt, valuesInRange}
 use Rattle.resetting.specs.Resetting.{resetValues, resetCells}
 
@@ -22,6 +22,6 @@ pub record Laws : Type 0 where
       → valuesInRange parameters (resetValues rows 103 vs) ≡ true
   pub values-length : (vs : List ℤ) → length (resetValues rows 103 vs) ≡ length vs
   -- in a store of 91 cells every value's cell has the default; the length of a store stays
-  pub cells-set : (s : List ℕ) (i : ℕ) → length s ≡ 364 → i < 103 → stored (rowAt rows i .access) ≡ true
+  pub cells-set : (s : List ℕ) (i : ℕ) → length s ≡ parameterLength → i < 103 → stored (rowAt rows i .access) ≡ true
       → cellAt (resetCells rows 103 s) (cellOf rows i) ≡ rowAt rows i .standard
   pub cells-length : (s : List ℕ) → length (resetCells rows 103 s) ≡ length s

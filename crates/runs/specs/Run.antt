@@ -2,8 +2,8 @@
 use Prim.Native.Nat.{ℕ}
 use mathlib.Core.Bool.{false, _&&_}
 use mathlib.Core.List.{List}
-use lib.Dec.{eqb, leb}
-use lib.ListN.{length}
+use lib.Dec.{leb}
+use Rattle.store.specs.Store.{isProgramStore, isParameterStore}
 use Rattle.words.specs.Word.{pick}
 use Rattle.status.specs.Status.{numberOf}
 use Rattle.board.specs.Range.{registersInRange}
@@ -38,7 +38,7 @@ afterSteps x = record { registers = x .registers; store = x .store; status = num
 
 unfoldable pub run : List ℕ → ℕ → Registers → List ℕ → Answer
 run program budget r m =
-    pick (eqb (length program) 7168 && eqb (length m) 364)
+    pick (isProgramStore program && isParameterStore m)
     (pick (registersInRange r)
     (pick (leb budget 1000) (afterSteps (steps false program budget r m)) (answered (refused Budget r) m))
     (answered (refused HandedIn r) m))

@@ -36,10 +36,10 @@ fn refused(registers: Registers, ended: Ended) -> Ran
 pub fn run(registers: Registers, program: &[u8], store: &mut [u8], budget: usize) -> Ran
     ensures { λ r. ⌜ spec.answered r (now (store .exit)) ≡ spec.run (now (program .entry)) budget registers (now (store .entry)) ⌝ }
 {
-    if program.len() != 7168 {
+    if !store::is_program_store(program) {
         return refused(registers, Ended::Length);
     }
-    if store.len() != 364 {
+    if !store::is_parameter_store(store) {
         return refused(registers, Ended::Length);
     }
     if !registers.in_range() {

@@ -3,7 +3,8 @@
 -- is taken: a place that does not lie within it reads as zero and is not written.
 use Prim.Native.Nat.{ℕ, _+_, _*_}
 use mathlib.Core.List.{List, [], _∷_}
-use lib.Dec.{leb}
+use mathlib.Core.Bool.{Bool}
+use lib.Dec.{eqb, leb}
 use lib.IntN.{ℤ, pos}
 use lib.ListN.{length}
 use lib.Seq.{sets}
@@ -13,6 +14,19 @@ use Rattle.words.specs.declared.Word.{Word}
 use Rattle.words.specs.declared.Four.{Four}
 use Rattle.wire.specs.Frame.{seven, commandAt}
 use Rattle.wire.specs.declared.Command.{Command}
+
+-- "a program store of 7,168 bytes", "a parameter store of 364 bytes"
+abbrev pub programLength : ℕ
+programLength = 7168
+
+abbrev pub parameterLength : ℕ
+parameterLength = 364
+
+abbrev pub isProgramStore : List ℕ → Bool
+isProgramStore p = eqb (length p) programLength
+
+abbrev pub isParameterStore : List ℕ → Bool
+isParameterStore s = eqb (length s) parameterLength
 
 -- with bytes written from a place on, first byte first; with none written where they do not all fit
 unfoldable pub written : List ℕ → ℕ → List ℕ → List ℕ

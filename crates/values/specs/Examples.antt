@@ -6,10 +6,9 @@ use lib.IntN.{ℤ, pos, negsuc}
 use lib.ListN.{length, replicate}
 use Rattle.words.specs.Word.{word}
 use Rattle.sheet.specs.Rows.{rows, cells}
-use Rattle.sheet.specs.Places.{placeIn, globalPlace}
-use Rattle.sheet.specs.Sheet.{axis}
+use Rattle.sheet.specs.Places.{axisPlace, globalPlace}
 use Rattle.rows.specs.declared.Row.{Row}
-use Rattle.store.specs.Store.{cellBytes, putCell}
+use Rattle.store.specs.Store.{parameterLength, cellBytes, putCell}
 use Rattle.values.specs.Values.{valueAt, poweredValues}
 
 abbrev pub defaultsOf : List Row → List ℤ
@@ -37,15 +36,15 @@ mixedCells =
 
 -- after power-up, the axis parameter and the global of a number
 abbrev pub axisAfter : List ℕ → ℕ → ℤ
-axisAfter s n = valueAt (poweredValues rows s) (placeIn axis n) .v
+axisAfter s n = valueAt (poweredValues rows s) (axisPlace n) .v
 
 abbrev pub globalAfter : List ℕ → ℕ → ℤ
 globalAfter s n = valueAt (poweredValues rows s) (globalPlace n) .v
 
 pub record Examples : Type 0 where
-  pub default-length : length defaultCells ≡ 364
+  pub default-length : length defaultCells ≡ parameterLength
   pub default-cells : poweredValues rows defaultCells ≡ defaultsOf rows
-  pub bad-length : length badCells ≡ 364
+  pub bad-length : length badCells ≡ parameterLength
   pub bad-cells : poweredValues rows badCells ≡ defaultsOf rows
   -- good: 10 is 255, 93 is -32768, 76 is 255, user variable 55 is -1
   pub good-10 : axisAfter mixedCells 10 ≡ pos 255

@@ -12,8 +12,8 @@ use Rattle.waits.specs.Waits.{droppedWait}
 use Rattle.registers.specs.declared.Core.{Core}
 use Rattle.registers.specs.declared.Download.{Download}
 use Rattle.jumping.specs.Jump.{addressOf}
-use Rattle.control.specs.Control as control
-use Rattle.control.specs.Control.{Outcome, Placed, with, placed, afresh, ended, started, controlled}
+use Rattle.beginning.specs.Beginning.{Placed, placed, afresh}
+use Rattle.control.specs.Control.{Outcome, with, begun, ended, started, controlled}
 
 -- afresh at an address, running or not
 abbrev pub from : ℕ → Bool → Core → Placed
@@ -32,7 +32,7 @@ module _ (c : Command) (core : Core) (d : Download) (e : List ℕ) (P : Outcome 
 
   -- holds of what is left
   pub by-command : Each → P (controlled c core d e)
-  unfolding controlled control.begun control.reset
+  unfolding controlled begun
   by-command each =
       let n = c .number in
       picked P (eqb n 128) _ _ (λ _. each .stop)

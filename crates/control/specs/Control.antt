@@ -10,11 +10,11 @@ use Rattle.words.specs.declared.Word.{Word}
 use Rattle.wire.specs.declared.Command.{Command}
 use Rattle.order.specs.Order.{sameW}
 use Rattle.store.specs.Store.{recordAt}
-use Rattle.stack.specs.Stack.{emptied}
-use Rattle.registers.specs.Registers.{withWait, withDepth, withRunning, moved, stopped}
+use Rattle.registers.specs.Registers.{withWait, withRunning, stopped}
 use Rattle.waits.specs.Waits.{droppedWait}
 use Rattle.registers.specs.declared.Core.{Core}
 use Rattle.registers.specs.declared.Download.{Download}
+use Rattle.beginning.specs.Beginning.{Placed, placed, afresh, reset}
 use Rattle.jumping.specs.Jump.{isAddress, addressOf}
 use Rattle.reading.specs.Reading.{bit}
 use Rattle.status.specs.Status.{inOrder}
@@ -57,20 +57,8 @@ pub record Outcome : Type 0 where
 abbrev pub outcome : Controlled → List ℕ → Outcome
 outcome r e = record { core = r .core; download = r .download; entries = e }
 
--- the scalars and the stack
-pub record Placed : Type 0 where
-  pub core : Core
-  pub entries : List ℕ
-
-abbrev pub placed : Core → List ℕ → Placed
-placed c e = record { core = c; entries = e }
-
 abbrev pub with : Placed → Download → Outcome
 with p d = record { core = p .core; download = d; entries = p .entries }
-
--- at an address, "stack emptied, wait dropped"
-abbrev pub afresh : ℕ → Core → Placed
-afresh a c = placed (withDepth (emptied .depth) (moved a c)) (emptied .entries)
 
 -- 129
 unfoldable pub begun : ℕ → ℤ → Core → List ℕ → Placed
@@ -78,10 +66,7 @@ begun kind z c e =
     pick (eqb kind 0) (placed (withRunning true c) e)
     (placed (withRunning true (afresh (addressOf z) c .core)) (afresh (addressOf z) c .entries))
 
--- "131 reset (stopped, address 0, stack empty, wait dropped, download ended)"
-unfoldable pub reset : Core → Placed
-reset c = placed (withRunning false (afresh 0 c .core)) (afresh 0 c .entries)
-
+-- "download ended"
 abbrev pub ended : Download → Download
 ended d = record { on = false; address = d .address }
 
@@ -89,7 +74,7 @@ ended d = record { on = false; address = d .address }
 abbrev pub started : ℤ → Download
 started z = record { on = true; address = addressOf z }
 
--- "128 stop (address and stack kept, wait dropped)", 129, 131, 132, "133 end it (100 if none)"
+-- "128 stop (address and stack kept, wait dropped)", 129, "131 reset (.., download ended)", 132, "133 end it (100 if none)"
 unfoldable pub controlled : Command → Core → Download → List ℕ → Outcome
 controlled c core d e =
     pick (eqb (c .number) 128) (with (placed (stopped core) e) d)

@@ -2,6 +2,7 @@
 // 133, 134 and 135 do. 130 is a step, 137 and 255 are defaults and power-up; they stand in `controlling`.
 ghost use mathlib.Core.Path.{_≡_};
 ghost use Prim.Native.Nat.{_<_};
+ghost use Rattle.beginning.specs.Beginning.{placed};
 ghost use Rattle.control.specs.Control as spec;
 use registers::Core;
 use registers::Download;
@@ -58,32 +59,13 @@ pub struct Controlled {
 
 // 129: from the present address, or from one with an empty stack.
 fn run(kind: u8, value: Word, core: Core, entries: &mut [u16; 8]) -> Core
-    ensures { λ r. ⌜ spec.placed r (now (entries .exit)) ≡ spec.begun kind (value .v) core (now (entries .entry)) ⌝ }
+    ensures { λ r. ⌜ placed r (now (entries .exit)) ≡ spec.begun kind (value .v) core (now (entries .entry)) ⌝ }
 {
     if kind == 0 {
         return core.with_running(true);
     }
-    let there = afresh(core, entries, jumping::address_of(value));
+    let there = beginning::afresh(core, entries, jumping::address_of(value));
     there.with_running(true)
-}
-
-// At an address with an empty stack and no wait.
-fn afresh(core: Core, entries: &mut [u16; 8], address: u16) -> Core
-    ensures { λ r. ⌜ spec.placed r (now (entries .exit)) ≡ spec.afresh address core ⌝ }
-{
-    let stack = stack::empty();
-    let left = stack.entries;
-    *entries = left;
-    let there = core.moved(address);
-    there.with_depth(stack.depth)
-}
-
-// 131: stopped, at address 0 with an empty stack.
-fn reset(core: Core, entries: &mut [u16; 8]) -> Core
-    ensures { λ r. ⌜ spec.placed r (now (entries .exit)) ≡ spec.reset core ⌝ }
-{
-    let there = afresh(core, entries, 0);
-    there.with_running(false)
 }
 
 // Download mode ended, the write address kept.
@@ -113,7 +95,7 @@ pub fn control(c: Command, core: Core, download: Download, entries: &mut [u16; 8
             download: download,
         },
         131 => Controlled {
-            core: reset(core, entries),
+            core: beginning::reset(core, entries),
             download: ended(download),
         },
         132 => Controlled {

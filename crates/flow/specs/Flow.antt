@@ -1,6 +1,6 @@
 -- The commands that only a program has, once the judge has let the record through.
 use Prim.Native.Nat.{ℕ}
-use mathlib.Core.Bool.{Bool, true, false}
+use mathlib.Core.Bool.{Bool, true}
 use mathlib.Core.List.{List}
 use lib.Dec.{eqb, leb}
 use lib.IntN.{ℤ}
@@ -9,9 +9,10 @@ use Rattle.words.specs.declared.Word.{Word}
 use Rattle.wire.specs.declared.Command.{Command}
 use Rattle.status.specs.declared.Status.{Status}
 use Rattle.status.specs.declared.Status.the-variants.{Done, Value, Unavailable}
-use Rattle.registers.specs.Registers.{withWait, withFlags, withDepth, withRunning, moved, next, nextAddress}
+use Rattle.registers.specs.Registers.{withWait, withFlags, withDepth, moved, next, nextAddress}
 use Rattle.registers.specs.declared.Core.{Core}
-use Rattle.stack.specs.Stack.{emptied, pushed, popped}
+use Rattle.stack.specs.Stack.{pushed, popped}
+use Rattle.beginning.specs.Beginning.{reset}
 use Rattle.jumping.specs.Jump.{jumps, addressOf}
 use Rattle.waiting.specs.Waiting.{waited}
 use Rattle.waiting.specs.declared.Waited.{Waited}
@@ -54,7 +55,7 @@ returned c e =
 
 -- "STOP stops, sets address 0 and empties the stack"
 unfoldable pub halted : Core → Flow
-halted c = flow (at Done (withDepth (emptied .depth) (withRunning false (moved 0 c)))) (emptied .entries)
+halted c = flow (at Done (reset c .core)) (reset c .entries)
 
 -- "then setting ETO"
 abbrev pub timedOut : Core → Core

@@ -83,13 +83,8 @@ fn give_back(core: Core, entries: &mut [u16; 8]) -> Flowed
 fn halt(core: Core, entries: &mut [u16; 8]) -> Flowed
     ensures { λ r. ⌜ flow r (now (entries .exit)) ≡ halted core ⌝ }
 {
-    let stack = stack::empty();
-    let left = stack.entries;
-    *entries = left;
-    let there = core.moved(0);
-    let still = there.with_running(false);
     Flowed {
-        core: still.with_depth(stack.depth),
+        core: beginning::reset(core, entries),
         status: Status::Done,
     }
 }

@@ -29,6 +29,7 @@ use Rattle.keeping.proofs.Cores as cores
 use Rattle.keeping.proofs.Rules as keeping
 use Rattle.resetting.specs.Laws as reset-laws
 use Rattle.resetting.proofs.Rules as resetting
+use Rattle.beginning.specs.Beginning.{afresh}
 use Rattle.control.specs.Control as control
 use Rattle.control.proofs.Cases.{by-command}
 use Rattle.directing.specs.Direct.{directed}
@@ -79,10 +80,10 @@ module _ (c : Command) (core : Core) (d : Download) (e : List ℕ)
   no-entries : entriesInRange (replicate 8 0) ≡ true
   no-entries = let l : reg-laws.Laws = registers.laws in is-true (entriesInRange (replicate 8 0)) (l .powered-entries)
 
-  afresh-core : (a : ℕ) (b : Bool) → a ≤ 1024 → coreInRange (withRunning b (control.afresh a core .core)) ≡ true
+  afresh-core : (a : ℕ) (b : Bool) → a ≤ 1024 → coreInRange (withRunning b (afresh a core .core)) ≡ true
   afresh-core a b l =
       let p = cores.parts core h in
-      cores.whole (withRunning b (control.afresh a core .core)) (record { address = l; depth = omega arith; flags = p .flags })
+      cores.whole (withRunning b (afresh a core .core)) (record { address = l; depth = omega arith; flags = p .flags })
 
   controlled-kept : Placed (control.controlled c core d e)
   unfolding coreInRange

@@ -41,7 +41,7 @@ module _ (program : List ℕ) (c : Command) (r : Registers) (m : List ℕ) where
   Standing = Stood program (controlling.controlled c program r m .registers)
 
   by-131 : c .number ≡ 131 → Standing
-  unfolding controlling.controlled controlling.placed control.controlled control.reset
+  unfolding controlling.controlled controlling.placed control.controlled
   by-131 q = rw q (stands.begun program)
 
   by-129 : c .number ≡ 129 → c .kind ≡ 1 → addressOf (c .value .v) ≡ 0 → Standing

@@ -3,7 +3,7 @@ use borrow.Author.Tests.{ne-eqb}
 use Rattle.control.specs.Control.{controlled}
 use borrow.Author.Needs.{needs}
 use mathlib.Core.Path.{ap}
-use Rattle.control.proofs.Parts.{core-of, entries-of}
+use Rattle.beginning.proofs.Parts.{core-of, entries-of}
 use Rattle.control.proofs.control.Statement.{statement}
 use Rattle.control.proofs.control.Tie as tie
 

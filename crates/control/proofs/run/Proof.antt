@@ -3,7 +3,7 @@ use borrow.Author.Tests.{eq-eqb, ne-eqb}
 use Rattle.control.specs.Control.{begun}
 use borrow.Author.Needs.{needs}
 use mathlib.Core.Path.{ap}
-use Rattle.control.proofs.Parts.{core-of, entries-of}
+use Rattle.beginning.proofs.Parts.{core-of, entries-of}
 use Rattle.control.proofs.run.Statement.{statement}
 use Rattle.control.proofs.run.Tie as tie
 

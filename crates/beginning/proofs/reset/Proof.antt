@@ -1,13 +1,11 @@
--- `control::reset` meets its contract. Assumes nothing.
-use Rattle.control.specs.Control.{reset}
+-- `beginning::reset` meets its contract. Assumes nothing.
 use borrow.Author.Needs.{needs}
 use mathlib.Core.Path.{ap}
-use Rattle.control.proofs.Parts.{core-of, entries-of}
-use Rattle.control.proofs.reset.Statement.{statement}
-use Rattle.control.proofs.reset.Tie as tie
+use Rattle.beginning.proofs.Parts.{core-of, entries-of}
+use Rattle.beginning.proofs.reset.Statement.{statement}
+use Rattle.beginning.proofs.reset.Tie as tie
 
 returns : tie.Need-returns
-unfolding reset
 returns c =
     let e = c .before .afresh .ensures in
     simp (c .with-running .ensures, ap core-of e, ap entries-of e)

@@ -1,8 +1,8 @@
--- The parts of what a control command leaves. Assumes nothing.
+-- The parts of where a program stands. Assumes nothing.
 use Prim.Native.Nat.{ℕ}
 use mathlib.Core.List.{List}
 use Rattle.registers.specs.declared.Core.{Core}
-use Rattle.control.specs.Control.{Placed}
+use Rattle.beginning.specs.Beginning.{Placed}
 
 abbrev pub core-of : Placed → Core
 core-of p = p .core

@@ -1,7 +1,7 @@
--- `control::afresh` meets its contract. Assumes nothing.
+-- `beginning::afresh` meets its contract. Assumes nothing.
 use borrow.Author.Needs.{needs}
-use Rattle.control.proofs.afresh.Statement.{statement}
-use Rattle.control.proofs.afresh.Tie as tie
+use Rattle.beginning.proofs.afresh.Statement.{statement}
+use Rattle.beginning.proofs.afresh.Tie as tie
 
 returns : tie.Need-returns
 returns c = simp (c .with-depth .ensures, c .before .moved .ensures, c .before .before .before .empty .ensures)

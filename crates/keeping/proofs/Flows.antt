@@ -2,16 +2,17 @@
 use Prim.Native.Nat.{ℕ, _-_, _≤_}
 use native.Mathlib.Omega.{arith}
 use mathlib.Core.Path.{_≡_, refl}
-use mathlib.Core.Bool.{Bool, true, _&&_}
+use mathlib.Core.Bool.{Bool, true}
 use mathlib.Core.List.{List}
 use borrow.Author.Tests.{leb-true, le-leb}
-use lib.Dec.{eqb, ltb, leb}
+use lib.Dec.{eqb, leb}
 use lib.IntN.{ℤ}
 use lib.ListN.{getD}
 use Rattle.words.specs.declared.Word.{Word}
 use Rattle.words.proofs.Bools.{picked}
 use Rattle.wire.specs.declared.Command.{Command}
 use Rattle.ranges.specs.Range.{addressInRange, entriesInRange}
+use Rattle.ranges.proofs.Every.{every-get, every-each}
 use Rattle.status.specs.declared.Status.the-variants.{Unavailable}
 use Rattle.registers.specs.Registers.{withDepth, moved, nextAddress}
 use Rattle.registers.specs.Range.{coreInRange}
@@ -19,8 +20,6 @@ use Rattle.registers.specs.declared.Core.{Core}
 use Rattle.registers.proofs.Addresses.{next-low}
 use Rattle.stack.specs.Stack.{pushed, popped}
 use Rattle.stack.specs.Laws as stack-laws
-use Rattle.stack.specs.declared.Stack.{Stack}
-use Rattle.stack.specs.declared.Popped.{Popped}
 use Rattle.stack.proofs.Entries as stack-rules
 use Rattle.jumping.specs.Jump.{addressOf}
 use Rattle.jumping.proofs.Addresses.{address-in}
@@ -30,27 +29,16 @@ use Rattle.waiting.specs.declared.Waited.the-variants.{Refused, Passed, TimedOu
 use Rattle.flow.specs.Flow.{Flow, flow, refused, jumped, called, returned, halted, timedOut, afterWait, waitedStep, flowed}
 use Rattle.flow.specs.declared.Flowed.{Flowed}
 use Rattle.flow.proofs.Cases.{by-command}
-use Rattle.keeping.proofs.Elements.{every-set, every-get}
 use Rattle.keeping.proofs.Cores.{whole, parts, moved-in-range, next-in-range, passed-in-range}
 
 -- ---- the call stack
-module _ (e : List ℕ) (h : entriesInRange e ≡ true) where
-  pushed-in-range : (d a : ℕ) → a ≤ 1024 → entriesInRange (pushed e d a .entries) ≡ true
-  unfolding pushed entriesInRange
-  pushed-in-range d a l =
-      picked (λ (s : Stack). entriesInRange (s .entries) ≡ true) (ltb d 8) _ _ (λ _. every-set addressInRange e d a h (le-leb a 1024 l)) h
+all-low : (e : List ℕ) → entriesInRange e ≡ true → stack-laws.AllLow e
+unfolding entriesInRange
+all-low e h i = leb-true (getD e i 0) 1024 (every-get addressInRange e i 0 h refl)
 
-  popped-in-range : (d : ℕ) → entriesInRange (popped e d .stack .entries) ≡ true
-  unfolding popped entriesInRange
-  popped-in-range d =
-      picked (λ (s : Popped). entriesInRange (s .stack .entries) ≡ true) (ltb 0 d && leb d 8) _ _
-      (λ _. every-set addressInRange e (d - 1) 0 h refl) h
-
-  back-low : (d : ℕ) → popped e d .back ≤ 1024
-  unfolding popped entriesInRange
-  back-low d =
-      picked (λ (s : Popped). s .back ≤ 1024) (ltb 0 d && leb d 8) _ _
-      (λ _. leb-true (getD e (d - 1) 0) 1024 (every-get addressInRange e (d - 1) 0 h refl)) (omega arith)
+low-in-range : (e : List ℕ) → stack-laws.AllLow e → entriesInRange e ≡ true
+unfolding entriesInRange
+low-in-range e h = every-each addressInRange e 0 (λ i. le-leb (getD e i 0) 1024 (h i))
 
 -- ---- the commands
 pub record Kept (f : Flow) : Type 0 where
@@ -95,7 +83,7 @@ module _ (c : Core) (h : coreInRange c ≡ true) where
         picked Kept (leb 8 (c .depth)) _ _ (λ _. refused-kept)
         (record {
           core = placed-in-range (addressOf z) (s .depth) (address-in z) (l .push-depth e (c .depth) a (parts c h .depth));
-          entries = pushed-in-range e g (c .depth) a (next-low (c .address) (parts c h .address));
+          entries = low-in-range (s .entries) (l .push-low e (c .depth) a (all-low e g) (next-low (c .address) (parts c h .address)));
         })
 
     returned-kept : Kept (returned c e)
@@ -103,10 +91,11 @@ module _ (c : Core) (h : coreInRange c ≡ true) where
     returned-kept =
         let l : stack-laws.Laws = stack-rules.laws in
         let s = popped e (c .depth) in
+        let low = l .pop-low e (c .depth) (all-low e g) in
         picked Kept (eqb (c .depth) 0) _ _ (λ _. refused-kept)
         (record {
-          core = placed-in-range (s .back) (s .stack .depth) (back-low e g (c .depth)) (l .pop-depth e (c .depth) (parts c h .depth));
-          entries = popped-in-range e g (c .depth);
+          core = placed-in-range (s .back) (s .stack .depth) (low .1) (l .pop-depth e (c .depth) (parts c h .depth));
+          entries = low-in-range (s .stack .entries) (low .0);
         })
 
     pub flowed-kept : (r : Command) (values : List ℤ) → Kept (flowed r c e values)

@@ -1,4 +1,3 @@
-pub mod Elements
 pub mod Cores
 pub mod Flows
 pub mod Settings

@@ -6,13 +6,12 @@ use mathlib.Core.Bool.{Bool, true, false}
 use mathlib.Core.List.{List}
 use lib.Dec.{leb}
 use lib.IntN.{ℤ}
-use lib.ListN.{length, getD}
+use lib.ListN.{length}
 use mir.Syntax.{w32}
 use mir.Val.{SFits}
-use mir.ValLaws.{toZ-fits}
-use Rattle.words.specs.Bytes.{wordOf, wordAt}
 use Rattle.words.specs.Laws.{AllBytes}
 use Rattle.words.proofs.Bools.{picked}
+use Rattle.words.proofs.Trips.{read-fits}
 use Rattle.wire.specs.Frame.{commandAt}
 use Rattle.wire.specs.declared.Command.{Command}
 use Rattle.store.specs.Store.{recordAt, zeroRecord}
@@ -38,17 +37,11 @@ use Rattle.keeping.proofs.Decided.{decided-good}
 use Rattle.keeping.proofs.Held.{step-held}
 
 -- ---- the value of a record is a word
-pub value-fits : (p : List ℕ) (at : ℕ) → AllBytes p → SFits w32 (wordAt p at)
-unfolding wordOf
-value-fits p at b =
-    let u = getD p at 0 * 16777216 + getD p (at + 1) 0 * 65536 + getD p (at + 2) 0 * 256 + getD p (at + 3) 0 in
-    toZ-fits w32 u (record { fits = omega (arith, b at, b (at + 1), b (at + 2), b (at + 3)) })
-
 record-fits : (p : List ℕ) (a : ℕ) → AllBytes p → SFits w32 (recordAt p a .value .v)
 unfolding recordAt
 record-fits p a b =
     picked (λ (c : Command). SFits w32 (c .value .v)) (leb (a * 7 + 7) (length p)) (commandAt p (a * 7)) zeroRecord
-    (λ _. value-fits p (a * 7 + 3) b) (record { sfits = omega arith })
+    (λ _. read-fits p (a * 7 + 3) b) (record { sfits = omega arith })
 
 -- ---- work
 module _ (c : Command) (x : State) where

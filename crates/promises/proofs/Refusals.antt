@@ -12,6 +12,7 @@ use Rattle.words.specs.Word.{pick, word}
 use Rattle.words.specs.Laws.{AllBytes}
 use Rattle.words.specs.declared.Word.{Word}
 use Rattle.words.proofs.Bools.{picked}
+use Rattle.words.proofs.Trips.{read-fits}
 use Rattle.checksum.specs.Checksum.{rightFrame}
 use Rattle.wire.specs.declared.Command.{Command}
 use Rattle.status.specs.Status.{numberOf, isDone}
@@ -144,7 +145,7 @@ taken-fits : (ours : ℕ) (s : List ℕ) → AllBytes s → Fits (takenOf ours s
 unfolding takenOf Fits
 taken-fits ours s b =
     picked Fits (eqb (length s) 9) _ _
-    (λ _. picked Fits (eqb (getD s 0 0) ours) _ _ (λ _. picked Fits (rightFrame s) _ _ (λ _. keeping.value-fits s 4 b) tt) tt) tt
+    (λ _. picked Fits (eqb (getD s 0 0) ours) _ _ (λ _. picked Fits (rightFrame s) _ _ (λ _. read-fits s 4 b) tt) tt) tt
 
 datagram-in-range : (bytes : List ℕ) (x : Board) → AllBytes bytes → AllBytes (x .program) → InRange (x .registers)
     → InRange (datagram bytes x .board .registers)

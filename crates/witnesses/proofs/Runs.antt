@@ -90,26 +90,23 @@ record Row : Type 0 where
   third : Still thrice oneStep
   fourth : Still stepped runFromZero
 
-row : Row
-unfolding words-bytes.wordOf words-bytes.putWord wrapping-wrap.wrap rows-row.allowed rows-row.taken sheet-line.lines sheet-rows.parameters sheet-rows.rows sheet-sheet.rweRows sheet-sheet.rwRows sheet-sheet.rRows sheet-sheet.axis sheet-sheet.globals sheet-sheet.readOnly checksum-checksum.rightFrame wire-frame.putSeven wire-frame.frame store-store.written store-store.cellAt store-store.putCell store-store.recordAt store-store.putRecord serial-serial.takenOf stack-stack.pushed stack-stack.popped ranges-range.entriesInRange ranges-range.bitsInRange ranges-range.eachUpTo values-examples.defaultCells values-values.valuesInRange values-values.poweredAt values-values.poweredValues settings-settings.bankPlace settings-settings.settable settings-settings.kept settings-settings.isGlobal settings-settings.guarded settings-settings.locked calculating-calculate.calculated resetting-resetting.resetValues resetting-resetting.resetCells replying-reply.byteOf replying-reply.addresses replying-reply.replied flags-flags.raised jumping-jump.jumps jumping-jump.addressOf sampling-sample.settingsInRange sampling-sample.settled sampling-sample.sampleInRange waits-waits.ticked registers-range.coreInRange waiting-waiting.isOn waiting-waiting.happened waiting-waiting.tested waiting-waiting.waited flow-flow.jumped flow-flow.called flow-flow.returned flow-flow.halted flow-flow.waitedStep flow-flow.flowed fields-fields.writable fields-fields.storable fields-fields.sap fields-fields.has fields-fields.takes fields-fields.sgp effects-effects.setOutput motion-motion.withinLimit motion-motion.rightWithin motion-motion.leftWithin motion-motion.moveBy motion-motion.moveTo assigning-assigning.assign assigning-assigning.take assigning-assigning.keep numbers-numbers.intoAccumulator numbers-numbers.calc numbers-numbers.calcx numbers-numbers.clear judge-judge.judged judge-judge.isFlow judge-judge.isReading reading-reading.global reading-reading.digitalAt reading-reading.analogAt reading-reading.outputAt reading-reading.port reading-reading.read deciding-deciding.decidedBy deciding-deciding.worked stepping-step.carried stepping-step.obeyed stepping-step.step running-laws.walked running-run.run directing-direct.changed directing-direct.directed control-control.judged control-control.begun control-control.reset control-control.controlled control-control.shown control-control.answer board-range.registersInRange board-registers.unpowered board-registers.powered board-step.steps board-step.stepOnce events-events.poweredUp events-events.sampled events-events.ticked runs-run.run storing-storing.stored controlling-controlling.placed controlling-controlling.defaults controlling-controlling.controlled controlling-controlling.obeyedControl commands-obey.direct commands-obey.obeyed datagrams-datagram.obeyedBy datagrams-datagram.received datagrams-datagram.datagram safety-events.after safety-events.beginsProgram safety-events.runsFromAnother safety-listed.byValue safety-listed.byLock
-row =
-    record {
-      first = record { no-download = refl; no-address = refl };
-      second = record { no-download = refl; no-address = refl };
-      third = record { no-download = refl; no-address = refl };
-      fourth = record { no-download = refl; no-address = refl };
-    }
-
-quiet : Quiet once (damaged ∷ notOurs ∷ oneStep ∷ runFromZero ∷ run ∷ sample 1 ∷ sample 2 ∷ tick ∷ powerUp ∷ run ∷ [])
-quiet =
+quiet : Row → Quiet once (damaged ∷ notOurs ∷ oneStep ∷ runFromZero ∷ run ∷ sample 1 ∷ sample 2 ∷ tick ∷ powerUp ∷ run ∷ [])
+quiet row =
     Quiet.also (records-kept once damaged (row .first .no-download)) (row .first .no-address)
     (Quiet.also (records-kept twice notOurs (row .second .no-download)) (row .second .no-address)
     (Quiet.also (records-kept thrice oneStep (row .third .no-download)) (row .third .no-address)
     (Quiet.also (records-kept stepped runFromZero (row .fourth .no-download)) (row .fourth .no-address) (quiet-rest (after stepped runFromZero)))))
 
 pub runs : Runs
-unfolding words-bytes.wordOf words-bytes.putWord wrapping-wrap.wrap rows-row.allowed rows-row.taken sheet-line.lines sheet-rows.parameters sheet-rows.rows sheet-sheet.rweRows sheet-sheet.rwRows sheet-sheet.rRows sheet-sheet.axis sheet-sheet.globals sheet-sheet.readOnly checksum-checksum.rightFrame wire-frame.putSeven wire-frame.frame store-store.written store-store.cellAt store-store.putCell store-store.recordAt store-store.putRecord serial-serial.takenOf stack-stack.pushed stack-stack.popped ranges-range.entriesInRange ranges-range.bitsInRange ranges-range.eachUpTo values-examples.defaultCells values-values.valuesInRange values-values.poweredAt values-values.poweredValues settings-settings.bankPlace settings-settings.settable settings-settings.kept settings-settings.isGlobal settings-settings.guarded settings-settings.locked calculating-calculate.calculated resetting-resetting.resetValues resetting-resetting.resetCells replying-reply.byteOf replying-reply.addresses replying-reply.replied flags-flags.raised jumping-jump.jumps jumping-jump.addressOf sampling-sample.settingsInRange sampling-sample.settled sampling-sample.sampleInRange waits-waits.ticked registers-range.coreInRange waiting-waiting.isOn waiting-waiting.happened waiting-waiting.tested waiting-waiting.waited flow-flow.jumped flow-flow.called flow-flow.returned flow-flow.halted flow-flow.waitedStep flow-flow.flowed fields-fields.writable fields-fields.storable fields-fields.sap fields-fields.has fields-fields.takes fields-fields.sgp effects-effects.setOutput motion-motion.withinLimit motion-motion.rightWithin motion-motion.leftWithin motion-motion.moveBy motion-motion.moveTo assigning-assigning.assign assigning-assigning.take assigning-assigning.keep numbers-numbers.intoAccumulator numbers-numbers.calc numbers-numbers.calcx numbers-numbers.clear judge-judge.judged judge-judge.isFlow judge-judge.isReading reading-reading.global reading-reading.digitalAt reading-reading.analogAt reading-reading.outputAt reading-reading.port reading-reading.read deciding-deciding.decidedBy deciding-deciding.worked stepping-step.carried stepping-step.obeyed stepping-step.step running-laws.walked running-run.run directing-direct.changed directing-direct.directed control-control.judged control-control.begun control-control.reset control-control.controlled control-control.shown control-control.answer board-range.registersInRange board-registers.unpowered board-registers.powered board-step.steps board-step.stepOnce events-events.poweredUp events-events.sampled events-events.ticked runs-run.run storing-storing.stored controlling-controlling.placed controlling-controlling.defaults controlling-controlling.controlled controlling-controlling.obeyedControl commands-obey.direct commands-obey.obeyed datagrams-datagram.obeyedBy datagrams-datagram.received datagrams-datagram.datagram safety-events.after safety-events.beginsProgram safety-events.runsFromAnother safety-listed.byValue safety-listed.byLock
+unfolding words-bytes.wordOf words-bytes.putWord wrapping-wrap.wrap rows-row.allowed rows-row.taken sheet-line.lines sheet-rows.parameters sheet-rows.rows sheet-sheet.rweRows sheet-sheet.rwRows sheet-sheet.rRows sheet-sheet.axis sheet-sheet.globals sheet-sheet.readOnly checksum-checksum.rightFrame wire-frame.putSeven wire-frame.frame store-store.written store-store.cellAt store-store.putCell store-store.recordAt store-store.putRecord serial-serial.takenOf stack-stack.pushed stack-stack.popped ranges-range.entriesInRange ranges-range.bitsInRange ranges-range.eachUpTo values-examples.defaultCells values-values.valuesInRange values-values.poweredAt values-values.poweredValues settings-settings.bankPlace settings-settings.settable settings-settings.kept settings-settings.isGlobal settings-settings.guarded settings-settings.locked calculating-calculate.calculated resetting-resetting.resetValues resetting-resetting.resetCells replying-reply.byteOf replying-reply.addresses replying-reply.replied flags-flags.raised jumping-jump.jumps jumping-jump.addressOf sampling-sample.settingsInRange sampling-sample.settled sampling-sample.sampleInRange waits-waits.ticked registers-range.coreInRange waiting-waiting.isOn waiting-waiting.happened waiting-waiting.tested waiting-waiting.waited flow-flow.jumped flow-flow.called flow-flow.returned flow-flow.halted flow-flow.waitedStep flow-flow.flowed fields-fields.writable fields-fields.storable fields-fields.sap fields-fields.has fields-fields.takes fields-fields.sgp effects-effects.setOutput motion-motion.withinLimit motion-motion.rightWithin motion-motion.leftWithin motion-motion.moveBy motion-motion.moveTo assigning-assigning.assign assigning-assigning.take assigning-assigning.keep numbers-numbers.intoAccumulator numbers-numbers.calc numbers-numbers.calcx numbers-numbers.clear judge-judge.judged judge-judge.isFlow judge-judge.isReading reading-reading.global reading-reading.digitalAt reading-reading.analogAt reading-reading.outputAt reading-reading.port reading-reading.read deciding-deciding.decidedBy deciding-deciding.worked stepping-step.carried stepping-step.obeyed stepping-step.step running-laws.walked running-run.run directing-direct.changed directing-direct.directed control-control.judged control-control.begun control-control.controlled control-control.shown control-control.answer board-range.registersInRange board-registers.unpowered board-registers.powered board-step.steps board-step.stepOnce events-events.poweredUp events-events.sampled events-events.ticked runs-run.run storing-storing.stored controlling-controlling.placed controlling-controlling.defaults controlling-controlling.controlled controlling-controlling.obeyedControl commands-obey.direct commands-obey.obeyed datagrams-datagram.obeyedBy datagrams-datagram.received datagrams-datagram.datagram safety-events.after safety-events.beginsProgram safety-events.runsFromAnother safety-listed.byValue safety-listed.byLock
 runs =
+    let row : Row =
+    record {
+      first = record { no-download = refl; no-address = refl };
+      second = record { no-download = refl; no-address = refl };
+      third = record { no-download = refl; no-address = refl };
+      fourth = record { no-download = refl; no-address = refl };
+    } in
     record {
       power-up-begins = refl;
       run-begins = refl;
@@ -117,7 +114,7 @@ runs =
       restart-begins = refl;
       damaged-not = refl;
       alone = MakesStep.alone refl;
-      quiet = quiet;
+      quiet = quiet row;
       working-quiet = quiet-run (after once runFromZero);
       working-1 = refl;
       working-2 = refl;

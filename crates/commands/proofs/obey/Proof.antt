@@ -11,11 +11,19 @@ returns c = simp (← c .before .before .control .ensures, le-leb _ _ (c .before
 
 returns-2 : tie.Need-returns-2
 unfolding obeyed
-returns-2 c = simp (← c .before .before .store-record .ensures, c .before .before .before .before .if2 .taken, lt-leb _ _ (c .before .before .before .before .before .before .if1 .left))
+returns-2 c =
+    let b2 = c .before .before in
+    let b4 = b2 .before .before in
+    let b6 = b4 .before .before in
+    simp (← b2 .store-record .ensures, b4 .if2 .taken, lt-leb _ _ (b6 .if1 .left))
 
 returns-3 : tie.Need-returns-3
 unfolding obeyed
-returns-3 c = simp (← c .before .before .direct .ensures, c .before .before .before .before .if2 .left, lt-leb _ _ (c .before .before .before .before .before .before .if1 .left))
+returns-3 c =
+    let b2 = c .before .before in
+    let b4 = b2 .before .before in
+    let b6 = b4 .before .before in
+    simp (← b2 .direct .ensures, b4 .if2 .left, lt-leb _ _ (b6 .if1 .left))
 
 pub obey-spec : {M : Type 1} → statement M
 obey-spec =

@@ -19,7 +19,13 @@ returns-3 c = simp (c .powered .ensures, c .before .before .match .keys3)
 
 returns-4 : tie.Need-returns-4
 unfolding controlled
-returns-4 c = simp (c .place .ensures, ne-eqb _ _ (c .before .match .rest .0 .0 .1), ne-eqb _ _ (c .before .match .rest .0 .1), ne-eqb _ _ (c .before .match .rest .1))
+returns-4 c =
+    simp (
+      c .place .ensures,
+      ne-eqb _ _ (c .before .match .rest .0 .0 .1),
+      ne-eqb _ _ (c .before .match .rest .0 .1),
+      ne-eqb _ _ (c .before .match .rest .1),
+    )
 
 pub controlled-spec : {M : Type 1} → statement M
 controlled-spec =

@@ -11,11 +11,35 @@ returns c = simp (not-true (c .before .lent .result) (c .if1 .taken), ← c .bef
 
 returns-2 : tie.Need-returns-2
 unfolding datagram
-returns-2 c = simp (not-true (c .before .in-range .result) (c .if2 .taken), ← c .before .in-range .ensures, not-false (c .before .before .before .lent .result) (c .before .before .if1 .left), ← c .before .before .before .lent .ensures)
+returns-2 c =
+    let b2 = c .before .before in
+    let b3 = b2 .before in
+    simp (
+      not-true (c .before .in-range .result) (c .if2 .taken),
+      ← c .before .in-range .ensures,
+      not-false (b3 .lent .result) (b2 .if1 .left),
+      ← b3 .lent .ensures,
+    )
 
 returns-3 : tie.Need-returns-3
 unfolding datagram
-returns-3 c = simp (← c .before .before .before .before .before .before .receive .ensures, ← c .before .before .before .before .before .before .before .before .before .before .take-command .ensures, ← c .before .before .before .before .before .before .before .before .before .before .before .byte-of .ensures, not-false (c .before .before .before .before .before .before .before .before .before .before .before .before .before .before .before .in-range .result) (c .before .before .before .before .before .before .before .before .before .before .before .before .before .before .if2 .left), ← c .before .before .before .before .before .before .before .before .before .before .before .before .before .before .before .in-range .ensures, not-false (c .before .before .before .before .before .before .before .before .before .before .before .before .before .before .before .before .before .lent .result) (c .before .before .before .before .before .before .before .before .before .before .before .before .before .before .before .before .if1 .left), ← c .before .before .before .before .before .before .before .before .before .before .before .before .before .before .before .before .before .lent .ensures)
+returns-3 c =
+    let b6 = c .before .before .before .before .before .before in
+    let b10 = b6 .before .before .before .before in
+    let b11 = b10 .before in
+    let b14 = b11 .before .before .before in
+    let b15 = b14 .before in
+    let b16 = b15 .before in
+    let b17 = b16 .before in
+    simp (
+      ← b6 .receive .ensures,
+      ← b10 .take-command .ensures,
+      ← b11 .byte-of .ensures,
+      not-false (b15 .in-range .result) (b14 .if2 .left),
+      ← b15 .in-range .ensures,
+      not-false (b17 .lent .result) (b16 .if1 .left),
+      ← b17 .lent .ensures,
+    )
 
 pub datagram-spec : {M : Type 1} → statement M
 datagram-spec =

@@ -6,11 +6,17 @@ use Rattle.directing.proofs.change.Tie as tie
 
 returns : tie.Need-returns
 unfolding changed
-returns c = simp (c .answer .ensures, c .before .if1 .taken, ← c .before .before .is-done .ensures, ← c .before .before .before .before .before .before .work .ensures)
+returns c =
+    let b2 = c .before .before in
+    let b6 = b2 .before .before .before .before in
+    simp (c .answer .ensures, c .before .if1 .taken, ← b2 .is-done .ensures, ← b6 .work .ensures)
 
 returns-2 : tie.Need-returns-2
 unfolding changed
-returns-2 c = simp (c .refused .ensures, c .before .if1 .left, ← c .before .before .is-done .ensures, ← c .before .before .before .before .before .before .work .ensures)
+returns-2 c =
+    let b2 = c .before .before in
+    let b6 = b2 .before .before .before .before in
+    simp (c .refused .ensures, c .before .if1 .left, ← b2 .is-done .ensures, ← b6 .work .ensures)
 
 pub change-spec : {M : Type 1} → statement M
 change-spec =

@@ -16,10 +16,20 @@ returns-4 : tie.Need-returns-4
 returns-4 c = simp (c .put-value2 .ensures, c .before .before .before .effect4 .given .1)
 
 returns-5 : tie.Need-returns-5
-returns-5 c = simp (c .before .before .put-cell .ensures, c .before .before .before .cell-of .ensures, c .before .before .before .before .before .put-value3 .ensures, c .before .before .before .before .before .before .before .before .effect5 .given .1)
+returns-5 c =
+    let b2 = c .before .before in
+    let b3 = b2 .before in
+    let b5 = b3 .before .before in
+    let b8 = b5 .before .before .before in
+    simp (b2 .put-cell .ensures, b3 .cell-of .ensures, b5 .put-value3 .ensures, b8 .effect5 .given .1)
 
 returns-6 : tie.Need-returns-6
-returns-6 c = simp (c .before .before .put-cell2 .ensures, c .before .before .before .value-at .ensures, c .before .before .before .before .before .cell-of2 .ensures, c .before .before .before .before .before .before .before .before .effect6 .given .1)
+returns-6 c =
+    let b2 = c .before .before in
+    let b3 = b2 .before in
+    let b5 = b3 .before .before in
+    let b8 = b5 .before .before .before in
+    simp (b2 .put-cell2 .ensures, b3 .value-at .ensures, b5 .cell-of2 .ensures, b8 .effect6 .given .1)
 
 returns-7 : tie.Need-returns-7
 returns-7 c = simp (c .put-value4 .ensures, c .before .powered-value .ensures, c .before .before .before .before .before .effect7 .given .1)

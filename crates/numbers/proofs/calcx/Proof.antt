@@ -15,7 +15,14 @@ returns-2 c = simp (c .match .keys2)
 
 returns-3 : tie.Need-returns-3
 unfolding calcx
-returns-3 c = simp (c .into-accumulator .ensures, c .before .calculate .ensures, ne-eqb _ _ (c .before .before .match .rest .0 .1), ne-eqb _ _ (c .before .before .match .rest .1))
+returns-3 c =
+    let b2 = c .before .before in
+    simp (
+      c .into-accumulator .ensures,
+      c .before .calculate .ensures,
+      ne-eqb _ _ (b2 .match .rest .0 .1),
+      ne-eqb _ _ (b2 .match .rest .1),
+    )
 
 pub calcx-spec : {M : Type 1} → statement M
 calcx-spec =

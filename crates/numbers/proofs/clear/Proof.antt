@@ -6,7 +6,10 @@ use Rattle.numbers.proofs.clear.Tie as tie
 
 returns : tie.Need-returns
 unfolding clear
-returns c = simp (c .cleared4 .ensures, c .before .cleared3 .ensures, c .before .before .cleared2 .ensures, c .before .before .before .cleared .ensures)
+returns c =
+    let b2 = c .before .before in
+    let b3 = b2 .before in
+    simp (c .cleared4 .ensures, c .before .cleared3 .ensures, b2 .cleared2 .ensures, b3 .cleared .ensures)
 
 pub clear-spec : {M : Type 1} → statement M
 clear-spec =

@@ -15,11 +15,24 @@ returns-2 c = simp (c .bit .ensures, eq-eqb _ _ (c .before .if2 .taken), ne-eqb 
 
 returns-3 : tie.Need-returns-3
 unfolding global
-returns-3 c = simp (c .word-of .ensures, eq-eqb _ _ (c .before .if3 .taken), ne-eqb _ _ (c .before .before .if2 .left), ne-eqb _ _ (c .before .before .before .if1 .left))
+returns-3 c =
+    let b2 = c .before .before in
+    let b3 = b2 .before in
+    simp (c .word-of .ensures, eq-eqb _ _ (c .before .if3 .taken), ne-eqb _ _ (b2 .if2 .left), ne-eqb _ _ (b3 .if1 .left))
 
 returns-4 : tie.Need-returns-4
 unfolding global
-returns-4 c = simp (c .value-at2 .ensures, ne-eqb _ _ (c .before .if3 .left), ne-eqb _ _ (c .before .before .if2 .left), ne-eqb _ _ (c .before .before .before .if1 .left), c .before .before .before .before .bank-place .ensures)
+returns-4 c =
+    let b2 = c .before .before in
+    let b3 = b2 .before in
+    let b4 = b3 .before in
+    simp (
+      c .value-at2 .ensures,
+      ne-eqb _ _ (c .before .if3 .left),
+      ne-eqb _ _ (b2 .if2 .left),
+      ne-eqb _ _ (b3 .if1 .left),
+      b4 .bank-place .ensures,
+    )
 
 pub global-spec : {M : Type 1} → statement M
 global-spec =

@@ -7,11 +7,17 @@ use Rattle.settings.proofs.kept.Tie as tie
 
 returns : tie.Need-returns
 unfolding kept
-returns c = simp (← c .before .before .before .bank-place .ensures, eq-eqb _ _ (c .before .before .if1 .taken), ← c .before .equals .ensures, c .if2 .taken)
+returns c =
+    let b2 = c .before .before in
+    let b3 = b2 .before in
+    simp (← b3 .bank-place .ensures, eq-eqb _ _ (b2 .if1 .taken), ← c .before .equals .ensures, c .if2 .taken)
 
 returns-2 : tie.Need-returns-2
 unfolding kept
-returns-2 c = simp (← c .before .before .before .bank-place .ensures, eq-eqb _ _ (c .before .before .if1 .taken), ← c .before .equals .ensures, c .if2 .left)
+returns-2 c =
+    let b2 = c .before .before in
+    let b3 = b2 .before in
+    simp (← b3 .bank-place .ensures, eq-eqb _ _ (b2 .if1 .taken), ← c .before .equals .ensures, c .if2 .left)
 
 returns-3 : tie.Need-returns-3
 unfolding kept

@@ -11,7 +11,10 @@ returns c = simp (c .is-key .ensures, ← c .before .before .bank-place .ensures
 
 returns-2 : tie.Need-returns-2
 unfolding settable
-returns-2 c = simp (c .allowed .ensures, c .before .row-at .ensures, ← c .before .before .before .bank-place .ensures, ne-eqb _ _ (c .before .before .if1 .left))
+returns-2 c =
+    let b2 = c .before .before in
+    let b3 = b2 .before in
+    simp (c .allowed .ensures, c .before .row-at .ensures, ← b3 .bank-place .ensures, ne-eqb _ _ (b2 .if1 .left))
 
 pub settable-spec : {M : Type 1} → statement M
 settable-spec =

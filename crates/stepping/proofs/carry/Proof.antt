@@ -6,15 +6,36 @@ use Rattle.stepping.proofs.carry.Tie as tie
 
 returns : tie.Need-returns
 unfolding carried
-returns c = simp (← c .before .flow .ensures, c .before .before .before .before .if1 .taken, ← c .before .before .before .before .before .is-flow .ensures)
+returns c =
+    let b4 = c .before .before .before .before in
+    let b5 = b4 .before in
+    simp (← c .before .flow .ensures, b4 .if1 .taken, ← b5 .is-flow .ensures)
 
 returns-2 : tie.Need-returns-2
 unfolding carried
-returns-2 c = simp (c .load .ensures, c .before .before .before .if2 .taken, ← c .before .before .before .before .is-reading .ensures, c .before .before .before .before .before .if1 .left, ← c .before .before .before .before .before .before .is-flow .ensures)
+returns-2 c =
+    let b3 = c .before .before .before in
+    let b4 = b3 .before in
+    let b5 = b4 .before in
+    let b6 = b5 .before in
+    simp (c .load .ensures, b3 .if2 .taken, ← b4 .is-reading .ensures, b5 .if1 .left, ← b6 .is-flow .ensures)
 
 returns-3 : tie.Need-returns-3
 unfolding carried
-returns-3 c = simp (c .next .ensures, ← c .before .before .before .before .work .ensures, c .before .before .before .before .before .before .before .before .if2 .left, ← c .before .before .before .before .before .before .before .before .before .is-reading .ensures, c .before .before .before .before .before .before .before .before .before .before .if1 .left, ← c .before .before .before .before .before .before .before .before .before .before .before .is-flow .ensures)
+returns-3 c =
+    let b4 = c .before .before .before .before in
+    let b8 = b4 .before .before .before .before in
+    let b9 = b8 .before in
+    let b10 = b9 .before in
+    let b11 = b10 .before in
+    simp (
+      c .next .ensures,
+      ← b4 .work .ensures,
+      b8 .if2 .left,
+      ← b9 .is-reading .ensures,
+      b10 .if1 .left,
+      ← b11 .is-flow .ensures,
+    )
 
 pub carry-spec : {M : Type 1} → statement M
 carry-spec =

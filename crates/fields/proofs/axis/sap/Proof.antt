@@ -6,7 +6,10 @@ use Rattle.fields.proofs.axis.sap.Tie as tie
 
 returns : tie.Need-returns
 unfolding sap
-returns c = simp (c .by-bytes .ensures, c .before .writable .ensures, c .before .before .before .settable .ensures, c .before .before .before .before .axis-place .ensures)
+returns c =
+    let b3 = c .before .before .before in
+    let b4 = b3 .before in
+    simp (c .by-bytes .ensures, c .before .writable .ensures, b3 .settable .ensures, b4 .axis-place .ensures)
 
 pub sap-spec : {M : Type 1} → statement M
 sap-spec =

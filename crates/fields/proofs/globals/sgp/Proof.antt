@@ -6,7 +6,11 @@ use Rattle.fields.proofs.globals.sgp.Tie as tie
 
 returns : tie.Need-returns
 unfolding sgp
-returns c = simp (c .by-bytes .ensures, c .before .takes .ensures, c .before .before .is-bank .ensures, c .before .before .before .settable .ensures, c .before .before .before .before .bank-place .ensures)
+returns c =
+    let b2 = c .before .before in
+    let b3 = b2 .before in
+    let b4 = b3 .before in
+    simp (c .by-bytes .ensures, c .before .takes .ensures, b2 .is-bank .ensures, b3 .settable .ensures, b4 .bank-place .ensures)
 
 pub sgp-spec : {M : Type 1} → statement M
 sgp-spec =

@@ -8,7 +8,10 @@ returns : tie.Need-returns
 returns c = simp (c .if1 .taken, ← c .before .not-negative .ensures)
 
 returns-2 : tie.Need-returns-2
-returns-2 c = simp (c .equals .ensures, eq-eqb _ _ (c .before .if2 .taken), c .before .before .if1 .left, ← c .before .before .before .not-negative .ensures)
+returns-2 c =
+    let b2 = c .before .before in
+    let b3 = b2 .before in
+    simp (c .equals .ensures, eq-eqb _ _ (c .before .if2 .taken), b2 .if1 .left, ← b3 .not-negative .ensures)
 
 returns-3 : tie.Need-returns-3
 returns-3 c = simp (ne-eqb _ _ (c .if2 .left), c .before .if1 .left, ← c .before .before .not-negative .ensures)

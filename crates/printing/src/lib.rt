@@ -1,17 +1,17 @@
-// What the program writes: bytes, hexadecimal frames and numbers, to standard output.
+// What the programs write to standard output: bytes, numbers, words, and frames as 000 prints them.
 use libc::STDOUT_FILENO;
 use words::Word;
 
-pub(crate) fn text(t: &[u8]) {
+pub fn text(t: &[u8]) {
     io::write_all(STDOUT_FILENO, t);
 }
 
-pub(crate) fn number(n: u64) {
+pub fn number(n: u64) {
     io::print_decimal(STDOUT_FILENO, n);
 }
 
 // A word in decimal: its bits, or a minus and what they lack to 2^32.
-pub(crate) fn signed(w: Word) {
+pub fn signed(w: Word) {
     let u = words::bits_of(w) as u64;
     if u < 2147483648 {
         number(u);
@@ -28,7 +28,7 @@ fn wide(b: u8) -> usize {
 const DIGITS: [u8; 16] = *b"0123456789ABCDEF";
 
 // Nine bytes as 000 prints them: two digits each, single spaces between.
-pub(crate) fn spelled(frame: [u8; 9]) -> [u8; 26] {
+pub fn spelled(frame: [u8; 9]) -> [u8; 26] {
     let mut out = [b' '; 26];
     let mut i = 0;
     while i < 9 {

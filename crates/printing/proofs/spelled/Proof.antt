@@ -1,8 +1,8 @@
--- `manual_examples::print::spelled` is safe and ends: the place stays within the nine bytes. Assumes nothing.
+-- `printing::spelled` is safe and ends: the place stays within the nine bytes. Assumes nothing.
 use Prim.Native.Nat.{_≤_, _-_}
 use borrow.Author.Needs.{needs}
-use Rattle.manual_examples.proofs.print.spelled.Statement.{statement}
-use Rattle.manual_examples.proofs.print.spelled.Tie as tie
+use Rattle.printing.proofs.spelled.Statement.{statement}
+use Rattle.printing.proofs.spelled.Tie as tie
 
 abbrev Inv-loop : tie.InvT-loop
 Inv-loop frame out₀ i₀ out i = i ≤ 9

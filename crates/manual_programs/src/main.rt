@@ -37,7 +37,8 @@ fn answer(
     line: &[u8],
     number: u64,
 ) -> Registers {
-    let read = script::read(line);
+    let mut numbers = [0u32; 16];
+    let read = script::read(line, &mut numbers);
     match read {
         Line::Heading => {
             print::heading(line);
@@ -47,18 +48,23 @@ fn answer(
             print::remark(line);
             registers
         }
-        Line::Tell(command, words_at) => {
-            text(b"  ");
-            print::words_from(line, words_at);
-            bench::tell(registers, program, cells, reply, command)
+        Line::Tell(words_at) => {
+            print::command(line, words_at);
+            bench::tell(
+                registers,
+                program,
+                cells,
+                reply,
+                script::command_of(&numbers),
+            )
         }
         Line::Check => {
             print::verdict(checking::check(program));
             registers
         }
-        Line::Run(budget) => bench::run(registers, program, cells, budget),
-        Line::Measure(sample) => bench::measure(registers, sample),
-        Line::Ticks(count) => bench::ticks(registers, count),
+        Line::Run => bench::run(registers, program, cells, script::amount_of(&numbers)),
+        Line::Measure => bench::measure(registers, script::sample_of(&numbers)),
+        Line::Ticks => bench::ticks(registers, script::amount_of(&numbers)),
         Line::Unknown => {
             print::unknown(number);
             registers

@@ -4,8 +4,9 @@ use checking::Verdict;
 use datagrams::Answer;
 use display::Received;
 use flags::Flags;
+use printing::labelled;
+use printing::labelled_word;
 use printing::number;
-use printing::signed;
 use printing::spelled;
 use printing::text;
 use registers::Core;
@@ -15,7 +16,7 @@ use waits::Wait;
 use words::Word;
 
 // A line of the script from a byte on.
-pub(crate) fn words_from(line: &[u8], from: usize) {
+fn words_from(line: &[u8], from: usize) {
     if from <= line.len() {
         text(&line[from..]);
     }
@@ -32,9 +33,14 @@ pub(crate) fn remark(line: &[u8]) {
     text(b"\n");
 }
 
+// The words that name a command.
+pub(crate) fn command(line: &[u8], from: usize) {
+    text(b"  ");
+    words_from(line, from);
+}
+
 pub(crate) fn unknown(at: u64) {
-    text(b"? ");
-    number(at);
+    labelled(b"? ", at);
     text(b"\n");
 }
 
@@ -48,10 +54,8 @@ pub(crate) fn record(frame: [u8; 9]) {
 fn received(reply: &[u8]) {
     match display::read_reply(reply) {
         Received::Read(r) => {
-            text(b", status ");
-            number(r.status as u64);
-            text(b", value ");
-            signed(r.value);
+            labelled(b", status ", r.status as u64);
+            labelled_word(b", value ", r.value);
         }
         Received::Length => text(b", reply of another length"),
         Received::Checksum => text(b", reply damaged"),
@@ -74,12 +78,9 @@ pub(crate) fn verdict(verdict: Verdict) {
         Verdict::Length => text(b"  check: refused with 20"),
         Verdict::Passed => text(b"  check: passed"),
         Verdict::Refused(point, status) => {
-            text(b"  check: refused at address ");
-            number(point.address as u64);
-            text(b", depth ");
-            number(point.depth as u64);
-            text(b", status ");
-            number(status.number() as u64);
+            labelled(b"  check: refused at address ", point.address as u64);
+            labelled(b", depth ", point.depth as u64);
+            labelled(b", status ", status.number() as u64);
         }
     }
     text(b"\n");
@@ -112,12 +113,10 @@ fn motion(m: Motion, target: Word) {
     match order {
         Order::Stopped => text(b", order stopped"),
         Order::Velocity => {
-            text(b", order velocity ");
-            signed(m.velocity);
+            labelled_word(b", order velocity ", m.velocity);
         }
         Order::Position => {
-            text(b", order position ");
-            signed(target);
+            labelled_word(b", order position ", target);
         }
     }
 }
@@ -142,8 +141,7 @@ fn flags(f: Flags) {
 
 // Where the program stands.
 fn place(core: Core) {
-    text(b"; address ");
-    number(core.address as u64);
+    labelled(b"; address ", core.address as u64);
     if core.running {
         text(b", running, depth ");
     } else {
@@ -154,10 +152,8 @@ fn place(core: Core) {
 
 // What the program has worked out, what it waits for, and what the motor is ordered to do.
 fn work(core: Core, target: Word) {
-    text(b", accumulator ");
-    signed(core.accumulator);
-    text(b", X ");
-    signed(core.x);
+    labelled_word(b", accumulator ", core.accumulator);
+    labelled_word(b", X ", core.x);
     text(b", ");
     wait(core.wait);
     motion(core.motion, target);
@@ -169,39 +165,30 @@ fn work(core: Core, target: Word) {
 pub(crate) fn ran(steps: usize, status: u8, core: Core, target: Word) {
     text(b"  run: ");
     counted(steps as u64, b" step");
-    text(b", status ");
-    number(status as u64);
+    labelled(b", status ", status as u64);
     place(core);
     work(core, target);
 }
 
 // A sample's status, and what the board then holds of it.
 pub(crate) fn measured(status: u8, position: Word, reached: Word, analog: Word) {
-    text(b"  sample: status ");
-    number(status as u64);
-    text(b"; position ");
-    signed(position);
-    text(b", reached ");
-    signed(reached);
-    text(b", analog input 0 ");
-    signed(analog);
+    labelled(b"  sample: status ", status as u64);
+    labelled_word(b"; position ", position);
+    labelled_word(b", reached ", reached);
+    labelled_word(b", analog input 0 ", analog);
 }
 
 pub(crate) fn switches(right: Word, left: Word, home: Word) {
-    text(b", switches right ");
-    signed(right);
-    text(b", left ");
-    signed(left);
-    text(b", home ");
-    signed(home);
+    labelled_word(b", switches right ", right);
+    labelled_word(b", left ", left);
+    labelled_word(b", home ", home);
     text(b"\n");
 }
 
 pub(crate) fn ticked(count: usize, status: u8, w: Wait) {
     text(b"  ");
     counted(count as u64, b" tick");
-    text(b": status ");
-    number(status as u64);
+    labelled(b": status ", status as u64);
     text(b"; ");
     wait(w);
     text(b"\n");

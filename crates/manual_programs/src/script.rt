@@ -15,12 +15,15 @@ pub(crate) enum Line {
     Heading,
     // The words from the third byte on.
     Remark,
-    // A command, and where the words that name it begin.
-    Tell(Command, usize),
+    // A command of four numbers; the words that name it begin at this place.
+    Tell(usize),
     Check,
-    Run(usize),
-    Measure(Sample),
-    Ticks(usize),
+    // One number, the budget.
+    Run,
+    // Sixteen numbers, a sample.
+    Measure,
+    // One number, how many.
+    Ticks,
     Unknown,
 }
 
@@ -145,59 +148,81 @@ fn spaced(line: &[u8], kind: Line) -> Line {
     }
 }
 
-// A command of four numbers, and the words that name it.
-fn command(line: &[u8]) -> Line {
-    let mut read = [0u32; 16];
-    let end = numbers(line, 4, &mut read);
+fn is_byte(bits: u32) -> bool {
+    bits < 256
+}
+
+fn byte(bits: u32) -> u8 {
+    (bits % 256) as u8
+}
+
+// A command line: four numbers, the first three of them bytes, and the words that name it.
+fn command(line: &[u8], out: &mut [u32; 16]) -> Line {
+    let end = numbers(line, 4, out);
     let words_at = behind_space(line, end);
-    if end == 0 || words_at == 0 {
+    let bytes = is_byte(out[0]) && is_byte(out[1]) && is_byte(out[2]);
+    if end == 0 || words_at == 0 || !bytes {
         return Line::Unknown;
     }
-    if 255 < read[0] {
-        return Line::Unknown;
-    }
-    if 255 < read[1] {
-        return Line::Unknown;
-    }
-    if 255 < read[2] {
-        return Line::Unknown;
-    }
-    let value = words::of_bits(read[3]);
-    let c = Command {
-        number: read[0] as u8,
-        kind: read[1] as u8,
-        motor: read[2] as u8,
-        value: value,
-    };
-    Line::Tell(c, words_at)
+    Line::Tell(words_at)
 }
 
-// The one number of a line, and nothing behind it: 4294967295 where there is another.
-fn amount(line: &[u8]) -> u32 {
-    let mut read = [0u32; 16];
-    let end = numbers(line, 1, &mut read);
+// A line of so many numbers and nothing behind them.
+fn alone(line: &[u8], count: usize, kind: Line, out: &mut [u32; 16]) -> Line {
+    let end = numbers(line, count, out);
     if end == 0 || end != line.len() {
-        return 4294967295;
+        return Line::Unknown;
     }
-    read[0]
+    kind
 }
 
-// A run; its budget is the board's to judge.
-fn run(line: &[u8]) -> Line {
-    let n = amount(line);
-    if n < 2147483648 {
-        Line::Run(n as usize)
-    } else {
-        Line::Unknown
+fn ticks(line: &[u8], out: &mut [u32; 16]) -> Line {
+    let kind = alone(line, 1, Line::Ticks, out);
+    if MOST_TICKS < out[0] {
+        return Line::Unknown;
+    }
+    kind
+}
+
+// The kind of a line, and its numbers. What they may be is the board's to judge.
+pub(crate) fn read(line: &[u8], out: &mut [u32; 16]) -> Line {
+    if line.len() == 0 {
+        return Line::Unknown;
+    }
+    match line[0] {
+        b'=' => spaced(line, Line::Heading),
+        b'#' => spaced(line, Line::Remark),
+        b'd' => command(line, out),
+        b'c' => {
+            if line.len() == 1 {
+                Line::Check
+            } else {
+                Line::Unknown
+            }
+        }
+        b'r' => alone(line, 1, Line::Run, out),
+        b's' => alone(line, 16, Line::Measure, out),
+        b't' => ticks(line, out),
+        _ => Line::Unknown,
     }
 }
 
-fn ticks(line: &[u8]) -> Line {
-    let n = amount(line);
-    if n <= MOST_TICKS {
-        Line::Ticks(n as usize)
-    } else {
-        Line::Unknown
+fn sized(n: u32) -> usize {
+    n as usize
+}
+
+// A line's first number. A negative one is beyond every budget.
+pub(crate) fn amount_of(read: &[u32; 16]) -> usize {
+    sized(read[0])
+}
+
+// The command that a line's numbers make.
+pub(crate) fn command_of(read: &[u32; 16]) -> Command {
+    Command {
+        number: byte(read[0]),
+        kind: byte(read[1]),
+        motor: byte(read[2]),
+        value: words::of_bits(read[3]),
     }
 }
 
@@ -237,39 +262,11 @@ fn signals(read: &[u32; 16]) -> Signals {
     }
 }
 
-// Sixteen numbers; their ranges are the board's to judge.
-fn measure(line: &[u8]) -> Line {
-    let mut read = [0u32; 16];
-    let end = numbers(line, 16, &mut read);
-    if end == 0 || end != line.len() {
-        return Line::Unknown;
-    }
-    let sample = Sample {
-        readings: readings(&read),
-        inputs: inputs(&read),
-        signals: signals(&read),
-    };
-    Line::Measure(sample)
-}
-
-pub(crate) fn read(line: &[u8]) -> Line {
-    if line.len() == 0 {
-        return Line::Unknown;
-    }
-    match line[0] {
-        b'=' => spaced(line, Line::Heading),
-        b'#' => spaced(line, Line::Remark),
-        b'd' => command(line),
-        b'c' => {
-            if line.len() == 1 {
-                Line::Check
-            } else {
-                Line::Unknown
-            }
-        }
-        b'r' => run(line),
-        b's' => measure(line),
-        b't' => ticks(line),
-        _ => Line::Unknown,
+// The sample that a line's numbers make, in the order of its fields.
+pub(crate) fn sample_of(read: &[u32; 16]) -> Sample {
+    Sample {
+        readings: readings(read),
+        inputs: inputs(read),
+        signals: signals(read),
     }
 }

@@ -21,6 +21,18 @@ pub fn signed(w: Word) {
     }
 }
 
+// A number behind the words that say what it is.
+pub fn labelled(words: &[u8], n: u64) {
+    text(words);
+    number(n);
+}
+
+// A word behind the words that say what it is.
+pub fn labelled_word(words: &[u8], w: Word) {
+    text(words);
+    signed(w);
+}
+
 fn wide(b: u8) -> usize {
     b as usize
 }

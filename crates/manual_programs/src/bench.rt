@@ -16,26 +16,31 @@ fn clear(memory: &mut [u8]) {
 }
 
 // A board with no program and default cells, powered up.
-pub(crate) fn fresh(program: &mut [u8], cells: &mut [u8]) -> Registers {
+pub(crate) fn fresh(registers: Registers, program: &mut [u8], cells: &mut [u8]) -> Registers {
     clear(program);
     let mut values = [0i32; 103];
     resetting::reset(&mut values, cells);
-    let after = events::power_up(Registers::unpowered(), cells);
+    let after = events::power_up(registers, cells);
     after.registers
 }
 
-// A command from the display at address 1, and the reply to it.
+// A command as the display sends it to address 1, and the line that tells of it begun.
+pub(crate) fn sent(line: &[u8], words_at: usize, command: Command) -> [u8; 9] {
+    let mut frame = [0u8; 9];
+    display::build_command(&mut frame, 1, command);
+    crate::print::command(line, words_at, frame);
+    frame
+}
+
+// A datagram, and the reply to it.
 pub(crate) fn tell(
     registers: Registers,
     program: &mut [u8],
     cells: &mut [u8],
     reply: &mut [u8],
-    command: Command,
+    frame: &[u8],
 ) -> Registers {
-    let mut frame = [0u8; 9];
-    display::build_command(&mut frame, 1, command);
-    crate::print::record(frame);
-    let answered = datagrams::datagram(registers, program, cells, reply, &frame);
+    let answered = datagrams::datagram(registers, program, cells, reply, frame);
     let after = answered.registers;
     let answer = answered.answer;
     crate::print::answer(answer, reply);
@@ -61,12 +66,6 @@ fn number_of_run(ended: Ended) -> u8 {
     }
 }
 
-// An axis parameter as the board holds it.
-fn axis(registers: Registers, number: u8) -> Word {
-    let values = registers.values;
-    values::value_at(&values, places::axis_place(number))
-}
-
 pub(crate) fn run(
     registers: Registers,
     program: &[u8],
@@ -77,26 +76,18 @@ pub(crate) fn run(
     let after = ran.registers;
     let ended = ran.ended;
     let core = after.core;
-    crate::print::ran(ran.steps, number_of_run(ended), core, axis(after, 50));
+    let values = after.values;
+    crate::print::ran(ran.steps, number_of_run(ended), core, &values);
     after
-}
-
-fn tell_switches(registers: Registers) {
-    crate::print::switches(
-        axis(registers, 211),
-        axis(registers, 212),
-        axis(registers, 213),
-    );
 }
 
 pub(crate) fn measure(registers: Registers, sample: Sample) -> Registers {
     let measured = events::sample(registers, sample);
     let after = measured.registers;
     let answer = measured.answer;
+    let values = after.values;
     let analog = after.analog;
-    let first = Word { v: analog[0] };
-    crate::print::measured(number_of(answer), axis(after, 52), axis(after, 55), first);
-    tell_switches(after);
+    crate::print::measured(number_of(answer), &values, Word { v: analog[0] });
     after
 }
 

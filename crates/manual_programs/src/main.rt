@@ -28,6 +28,15 @@ fn line_end(script: &[u8], from: usize) -> usize
     end
 }
 
+// A line that leaves the board as it is.
+fn aside(read: Line, program: &[u8], line: &[u8], number: u64) {
+    match read {
+        Line::Remark => print::remark(line),
+        Line::Check => print::verdict(checking::check(program)),
+        _ => print::unknown(number),
+    }
+}
+
 // One line, the number it has in the script, and the registers it leaves.
 fn answer(
     registers: Registers,
@@ -37,36 +46,22 @@ fn answer(
     line: &[u8],
     number: u64,
 ) -> Registers {
-    let mut numbers = [0u32; 16];
+    let mut numbers = [0i32; 16];
     let read = script::read(line, &mut numbers);
     match read {
         Line::Heading => {
             print::heading(line);
-            bench::fresh(program, cells)
-        }
-        Line::Remark => {
-            print::remark(line);
-            registers
+            bench::fresh(registers, program, cells)
         }
         Line::Tell(words_at) => {
-            print::command(line, words_at);
-            bench::tell(
-                registers,
-                program,
-                cells,
-                reply,
-                script::command_of(&numbers),
-            )
-        }
-        Line::Check => {
-            print::verdict(checking::check(program));
-            registers
+            let frame = bench::sent(line, words_at, script::command_of(&numbers));
+            bench::tell(registers, program, cells, reply, &frame)
         }
         Line::Run => bench::run(registers, program, cells, script::amount_of(&numbers)),
         Line::Measure => bench::measure(registers, script::sample_of(&numbers)),
         Line::Ticks => bench::ticks(registers, script::amount_of(&numbers)),
-        Line::Unknown => {
-            print::unknown(number);
+        _ => {
+            aside(read, program, line, number);
             registers
         }
     }

@@ -33,20 +33,16 @@ pub(crate) fn remark(line: &[u8]) {
     text(b"\n");
 }
 
-// The words that name a command.
-pub(crate) fn command(line: &[u8], from: usize) {
-    text(b"  ");
-    words_from(line, from);
-}
-
 pub(crate) fn unknown(at: u64) {
     labelled(b"? ", at);
     text(b"\n");
 }
 
-// The seven bytes of a command, between its address and its checksum.
-pub(crate) fn record(frame: [u8; 9]) {
+// The words that name a command, and its seven bytes, between its address and its checksum.
+pub(crate) fn command(line: &[u8], from: usize, frame: [u8; 9]) {
     let bytes = spelled(frame);
+    text(b"  ");
+    words_from(line, from);
     text(b": ");
     text(&bytes[3..23]);
 }
@@ -74,15 +70,15 @@ pub(crate) fn answer(answer: Answer, reply: &[u8]) {
 }
 
 pub(crate) fn verdict(verdict: Verdict) {
-    match verdict {
-        Verdict::Length => text(b"  check: refused with 20"),
-        Verdict::Passed => text(b"  check: passed"),
-        Verdict::Refused(point, status) => {
-            labelled(b"  check: refused at address ", point.address as u64);
-            labelled(b", depth ", point.depth as u64);
-            labelled(b", status ", status.number() as u64);
-        }
+    let answer = verdict.answer();
+    let point = answer.point;
+    if answer.number == 100 {
+        text(b"  check: passed\n");
+        return;
     }
+    labelled(b"  check: refused at address ", point.address as u64);
+    labelled(b", depth ", point.depth as u64);
+    labelled(b", status ", answer.number as u64);
     text(b"\n");
 }
 
@@ -108,16 +104,18 @@ fn wait(w: Wait) {
     }
 }
 
-fn motion(m: Motion, target: Word) {
+// An axis parameter as the board holds it.
+fn parameter(words: &[u8], values: &[i32; 103], number: u8) {
+    labelled_word(words, values::value_at(values, places::axis_place(number)));
+}
+
+// The order, with the velocity or the target position, parameter 50.
+fn motion(m: Motion, values: &[i32; 103]) {
     let order = m.order;
     match order {
         Order::Stopped => text(b", order stopped"),
-        Order::Velocity => {
-            labelled_word(b", order velocity ", m.velocity);
-        }
-        Order::Position => {
-            labelled_word(b", order position ", target);
-        }
+        Order::Velocity => labelled_word(b", order velocity ", m.velocity),
+        Order::Position => parameter(b", order position ", values, 50),
     }
 }
 
@@ -128,60 +126,57 @@ fn flag(on: u8, name: &[u8]) {
 }
 
 fn flags(f: Flags) {
-    if f.eto == 0 && f.eal == 0 && f.edv == 0 && f.epo == 0 {
+    if f.eto | f.eal | f.edv | f.epo == 0 {
         text(b", no flag");
-    } else {
-        text(b", flags");
-        flag(f.eto, b" ETO");
-        flag(f.eal, b" EAL");
-        flag(f.edv, b" EDV");
-        flag(f.epo, b" EPO");
+        return;
     }
+    text(b", flags");
+    flag(f.eto, b" ETO");
+    flag(f.eal, b" EAL");
+    flag(f.edv, b" EDV");
+    flag(f.epo, b" EPO");
 }
 
 // Where the program stands.
-fn place(core: Core) {
-    labelled(b"; address ", core.address as u64);
-    if core.running {
-        text(b", running, depth ");
+fn place(address: u16, running: bool, depth: u8) {
+    labelled(b"; address ", address as u64);
+    if running {
+        text(b", running");
     } else {
-        text(b", stopped, depth ");
+        text(b", stopped");
     }
-    number(core.depth as u64);
+    labelled(b", depth ", depth as u64);
 }
 
 // What the program has worked out, what it waits for, and what the motor is ordered to do.
-fn work(core: Core, target: Word) {
+fn work(core: Core, values: &[i32; 103]) {
     labelled_word(b", accumulator ", core.accumulator);
     labelled_word(b", X ", core.x);
     text(b", ");
     wait(core.wait);
-    motion(core.motion, target);
+    motion(core.motion, values);
     flags(core.flags);
     text(b"\n");
 }
 
-// A run of so many steps, the last one's status, and what it left; the target is parameter 50.
-pub(crate) fn ran(steps: usize, status: u8, core: Core, target: Word) {
+// A run of so many steps, the last one's status, and what it left.
+pub(crate) fn ran(steps: usize, status: u8, core: Core, values: &[i32; 103]) {
     text(b"  run: ");
     counted(steps as u64, b" step");
     labelled(b", status ", status as u64);
-    place(core);
-    work(core, target);
+    place(core.address, core.running, core.depth);
+    work(core, values);
 }
 
 // A sample's status, and what the board then holds of it.
-pub(crate) fn measured(status: u8, position: Word, reached: Word, analog: Word) {
+pub(crate) fn measured(status: u8, values: &[i32; 103], analog: Word) {
     labelled(b"  sample: status ", status as u64);
-    labelled_word(b"; position ", position);
-    labelled_word(b", reached ", reached);
+    parameter(b"; position ", values, 52);
+    parameter(b", reached ", values, 55);
     labelled_word(b", analog input 0 ", analog);
-}
-
-pub(crate) fn switches(right: Word, left: Word, home: Word) {
-    labelled_word(b", switches right ", right);
-    labelled_word(b", left ", left);
-    labelled_word(b", home ", home);
+    parameter(b", switches right ", values, 211);
+    parameter(b", left ", values, 212);
+    parameter(b", home ", values, 213);
     text(b"\n");
 }
 

@@ -27,9 +27,9 @@ pub(crate) enum Line {
     Unknown,
 }
 
-// A number's bits, and where it ends: 0 where there is none that fits.
+// A number, and where it ends: 0 where there is none that fits.
 struct Number {
-    bits: u32,
+    value: Word,
     next: usize,
 }
 
@@ -40,7 +40,7 @@ struct Spelt {
 }
 
 // More ticks than this in one line are taken for a slip.
-const MOST_TICKS: u32 = 100000;
+const MOST_TICKS: i32 = 100000;
 
 fn wide(b: u8) -> u64
     ensures { λ r. ⌜ r ≡ b ⌝ }
@@ -78,35 +78,43 @@ fn digits(line: &[u8], from: usize) -> Spelt {
     }
 }
 
+// Where a number that is asked for cannot be read.
+fn nothing() -> Number {
+    Number {
+        value: Word { v: 0 },
+        next: 0,
+    }
+}
+
 // A number that was read, where it fits a word.
 fn fitting(minus: bool, value: u64, next: usize) -> Number {
     if minus {
         if value <= 2147483648 {
             let bits = (4294967296 - value) % 4294967296;
             return Number {
-                bits: bits as u32,
+                value: words::of_bits(bits as u32),
                 next: next,
             };
         }
     } else if value < 2147483648 {
         return Number {
-            bits: value as u32,
+            value: words::of_bits(value as u32),
             next: next,
         };
     }
-    Number { bits: 0, next: 0 }
+    nothing()
 }
 
 fn number_at(line: &[u8], from: usize) -> Number {
     if line.len() <= from {
-        return Number { bits: 0, next: 0 };
+        return nothing();
     }
     let minus = line[from] == b'-';
     let start = if minus { from + 1 } else { from };
     let read = digits(line, start);
     let next = read.next;
     if next == start {
-        return Number { bits: 0, next: 0 };
+        return nothing();
     }
     fitting(minus, read.value, next)
 }
@@ -122,7 +130,7 @@ fn behind_space(line: &[u8], at: usize) -> usize {
 
 // So many numbers, each behind a space, from the second byte on. Answers where they end, or 0 where
 // the line has not so many.
-fn numbers(line: &[u8], count: usize, out: &mut [u32; 16]) -> usize {
+fn numbers(line: &[u8], count: usize, out: &mut [i32; 16]) -> usize {
     let mut at = 1;
     let mut i = 0;
     while i < 16 {
@@ -134,7 +142,9 @@ fn numbers(line: &[u8], count: usize, out: &mut [u32; 16]) -> usize {
         if at == 0 {
             break;
         }
-        out[i] = read.bits;
+        let value = read.value;
+        let v = value.v;
+        out[i] = v;
         i += 1;
     }
     at
@@ -148,16 +158,12 @@ fn spaced(line: &[u8], kind: Line) -> Line {
     }
 }
 
-fn is_byte(bits: u32) -> bool {
-    bits < 256
-}
-
-fn byte(bits: u32) -> u8 {
-    (bits % 256) as u8
+fn is_byte(n: i32) -> bool {
+    0 <= n && n < 256
 }
 
 // A command line: four numbers, the first three of them bytes, and the words that name it.
-fn command(line: &[u8], out: &mut [u32; 16]) -> Line {
+fn command(line: &[u8], out: &mut [i32; 16]) -> Line {
     let end = numbers(line, 4, out);
     let words_at = behind_space(line, end);
     let bytes = is_byte(out[0]) && is_byte(out[1]) && is_byte(out[2]);
@@ -168,7 +174,7 @@ fn command(line: &[u8], out: &mut [u32; 16]) -> Line {
 }
 
 // A line of so many numbers and nothing behind them.
-fn alone(line: &[u8], count: usize, kind: Line, out: &mut [u32; 16]) -> Line {
+fn alone(line: &[u8], count: usize, kind: Line, out: &mut [i32; 16]) -> Line {
     let end = numbers(line, count, out);
     if end == 0 || end != line.len() {
         return Line::Unknown;
@@ -176,16 +182,19 @@ fn alone(line: &[u8], count: usize, kind: Line, out: &mut [u32; 16]) -> Line {
     kind
 }
 
-fn ticks(line: &[u8], out: &mut [u32; 16]) -> Line {
-    let kind = alone(line, 1, Line::Ticks, out);
-    if MOST_TICKS < out[0] {
-        return Line::Unknown;
+// A line of one number, from 0 to a highest.
+fn amount(line: &[u8], most: i32, kind: Line, out: &mut [i32; 16]) -> Line {
+    let read = alone(line, 1, kind, out);
+    let n = out[0];
+    if 0 <= n && n <= most {
+        read
+    } else {
+        Line::Unknown
     }
-    kind
 }
 
 // The kind of a line, and its numbers. What they may be is the board's to judge.
-pub(crate) fn read(line: &[u8], out: &mut [u32; 16]) -> Line {
+pub(crate) fn read(line: &[u8], out: &mut [i32; 16]) -> Line {
     if line.len() == 0 {
         return Line::Unknown;
     }
@@ -200,70 +209,70 @@ pub(crate) fn read(line: &[u8], out: &mut [u32; 16]) -> Line {
                 Line::Unknown
             }
         }
-        b'r' => alone(line, 1, Line::Run, out),
+        b'r' => amount(line, 2147483647, Line::Run, out),
         b's' => alone(line, 16, Line::Measure, out),
-        b't' => ticks(line, out),
+        b't' => amount(line, MOST_TICKS, Line::Ticks, out),
         _ => Line::Unknown,
     }
 }
 
-fn sized(n: u32) -> usize {
-    n as usize
+// A number by its bits, which for one from 0 up are itself.
+fn sized(n: i32) -> usize {
+    words::bits_of(Word { v: n }) as usize
 }
 
-// A line's first number. A negative one is beyond every budget.
-pub(crate) fn amount_of(read: &[u32; 16]) -> usize {
+// A line's first number, where it is an amount.
+pub(crate) fn amount_of(read: &[i32; 16]) -> usize {
     sized(read[0])
 }
 
+fn byte(n: i32) -> u8 {
+    (sized(n) % 256) as u8
+}
+
 // The command that a line's numbers make.
-pub(crate) fn command_of(read: &[u32; 16]) -> Command {
+pub(crate) fn command_of(read: &[i32; 16]) -> Command {
     Command {
         number: byte(read[0]),
         kind: byte(read[1]),
         motor: byte(read[2]),
-        value: words::of_bits(read[3]),
+        value: Word { v: read[3] },
     }
 }
 
-fn signed(bits: u32) -> i32 {
-    let w = words::of_bits(bits);
-    w.v
-}
-
-fn readings(read: &[u32; 16]) -> Readings {
+fn readings(read: &[i32; 16]) -> Readings {
     Readings {
-        ramp_position: signed(read[0]),
-        actual_position: signed(read[1]),
-        reached: signed(read[2]),
-        right: signed(read[3]),
-        left: signed(read[4]),
-        home: signed(read[5]),
-        supply_voltage: signed(read[6]),
-        temperature: signed(read[7]),
+        ramp_position: read[0],
+        actual_position: read[1],
+        reached: read[2],
+        right: read[3],
+        left: read[4],
+        home: read[5],
+        supply_voltage: read[6],
+        temperature: read[7],
     }
 }
 
-fn inputs(read: &[u32; 16]) -> Inputs {
+fn inputs(read: &[i32; 16]) -> Inputs {
     Inputs {
-        digital_0: words::of_bits(read[8]),
-        digital_1: words::of_bits(read[9]),
-        analog_0: signed(read[10]),
-        analog_1: signed(read[11]),
-        analog_2: signed(read[12]),
+        digital_0: Word { v: read[8] },
+        digital_1: Word { v: read[9] },
+        analog_0: read[10],
+        analog_1: read[11],
+        analog_2: read[12],
     }
 }
 
-fn signals(read: &[u32; 16]) -> Signals {
+fn signals(read: &[i32; 16]) -> Signals {
     Signals {
-        eal: words::of_bits(read[13]),
-        edv: words::of_bits(read[14]),
-        epo: words::of_bits(read[15]),
+        eal: Word { v: read[13] },
+        edv: Word { v: read[14] },
+        epo: Word { v: read[15] },
     }
 }
 
 // The sample that a line's numbers make, in the order of its fields.
-pub(crate) fn sample_of(read: &[u32; 16]) -> Sample {
+pub(crate) fn sample_of(read: &[i32; 16]) -> Sample {
     Sample {
         readings: readings(read),
         inputs: inputs(read),

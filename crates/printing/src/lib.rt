@@ -1,4 +1,7 @@
 // What the programs write to standard output: bytes, numbers, words, and frames as 000 prints them.
+ghost use mathlib.Core.Path.{_≡_};
+ghost use Prim.Native.Nat.{_<_};
+ghost use Rattle.printing.specs.Spelled as spec;
 use libc::STDOUT_FILENO;
 use words::Word;
 
@@ -33,21 +36,61 @@ pub fn labelled_word(words: &[u8], w: Word) {
     signed(w);
 }
 
-fn wide(b: u8) -> usize {
-    b as usize
+// A digit below 16; the last for any other.
+fn glyph(d: u8) -> u8
+    ensures { λ r. ⌜ (d < 16 → r ≡ spec.glyph d) ⌝ }
+{
+    if d < 10 {
+        48 + d
+    } else if d < 16 {
+        55 + d
+    } else {
+        70
+    }
 }
 
-const DIGITS: [u8; 16] = *b"0123456789ABCDEF";
+fn high(b: u8) -> u8
+    ensures { λ r. ⌜ r ≡ spec.high b ⌝ }
+{
+    glyph(b / 16)
+}
+
+fn low(b: u8) -> u8
+    ensures { λ r. ⌜ r ≡ spec.low b ⌝ }
+{
+    glyph(b % 16)
+}
 
 // Nine bytes as 000 prints them: two digits each, single spaces between.
-pub fn spelled(frame: [u8; 9]) -> [u8; 26] {
-    let mut out = [b' '; 26];
-    let mut i = 0;
-    while i < 9 {
-        let b = wide(frame[i]);
-        out[i * 3] = DIGITS[b / 16 % 16];
-        out[i * 3 + 1] = DIGITS[b % 16];
-        i += 1;
-    }
-    out
+pub fn spelled(frame: [u8; 9]) -> [u8; 26]
+    ensures { λ r. ⌜ r ≡ spec.spelledNine frame ⌝ }
+{
+    [
+        high(frame[0]),
+        low(frame[0]),
+        b' ',
+        high(frame[1]),
+        low(frame[1]),
+        b' ',
+        high(frame[2]),
+        low(frame[2]),
+        b' ',
+        high(frame[3]),
+        low(frame[3]),
+        b' ',
+        high(frame[4]),
+        low(frame[4]),
+        b' ',
+        high(frame[5]),
+        low(frame[5]),
+        b' ',
+        high(frame[6]),
+        low(frame[6]),
+        b' ',
+        high(frame[7]),
+        low(frame[7]),
+        b' ',
+        high(frame[8]),
+        low(frame[8]),
+    ]
 }

@@ -173,7 +173,7 @@ pub(crate) fn measured(status: u8, values: &[i32; 103], analog: Word) {
     labelled(b"  sample: status ", status as u64);
     parameter(b"; position ", values, 52);
     parameter(b", reached ", values, 55);
-    labelled_word(b", analog input 0 ", analog);
+    labelled_word(b", AIN0 ", analog);
     parameter(b", switches right ", values, 211);
     parameter(b", left ", values, 212);
     parameter(b", home ", values, 213);

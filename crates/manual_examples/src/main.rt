@@ -2,13 +2,11 @@
 // is built by the display, compared with the printed bytes, and taken back by the board; a reply is
 // read by the display and compared with what its example says. A line for each, named as 000 titles
 // its frame, and a line with the counts.
-mod print;
-
 use display::Received;
-use print::number;
-use print::signed;
-use print::spelled;
-use print::text;
+use printing::number;
+use printing::signed;
+use printing::spelled;
+use printing::text;
 use serial::Taken;
 use std::num::wrapping_add_u64;
 use wire::Command;

@@ -1,0 +1,190 @@
+// The lines of the trace: headings and remarks as the script has them, and what the board answered and
+// did, set in by two spaces.
+use checking::Verdict;
+use datagrams::Answer;
+use display::Received;
+use flags::Flags;
+use printing::labelled;
+use printing::labelled_word;
+use printing::number;
+use printing::spelled;
+use printing::text;
+use registers::Core;
+use registers::Motion;
+use registers::Order;
+use waits::Wait;
+use words::Word;
+
+// A line of the script from a byte on.
+fn words_from(line: &[u8], from: usize) {
+    if from <= line.len() {
+        text(&line[from..]);
+    }
+}
+
+pub(crate) fn heading(line: &[u8]) {
+    text(b"\n");
+    words_from(line, 2);
+    text(b"\n");
+}
+
+pub(crate) fn remark(line: &[u8]) {
+    words_from(line, 2);
+    text(b"\n");
+}
+
+pub(crate) fn unknown(at: u64) {
+    labelled(b"? ", at);
+    text(b"\n");
+}
+
+// The words that name a command, and its seven bytes, between its address and its checksum.
+pub(crate) fn command(line: &[u8], from: usize, frame: [u8; 9]) {
+    let bytes = spelled(frame);
+    text(b"  ");
+    words_from(line, from);
+    text(b": ");
+    text(&bytes[3..23]);
+}
+
+fn received(reply: &[u8]) {
+    match display::read_reply(reply) {
+        Received::Read(r) => {
+            labelled(b", status ", r.status as u64);
+            labelled_word(b", value ", r.value);
+        }
+        Received::Length => text(b", reply of another length"),
+        Received::Checksum => text(b", reply damaged"),
+    }
+}
+
+// What a datagram was answered, with the reply as the display reads it.
+pub(crate) fn answer(answer: Answer, reply: &[u8]) {
+    match answer {
+        Answer::Nothing => text(b", no reply"),
+        Answer::Length => text(b", refused with 20"),
+        Answer::HandedIn => text(b", refused with 23"),
+        Answer::Replied(_) => received(reply),
+    }
+    text(b"\n");
+}
+
+pub(crate) fn verdict(verdict: Verdict) {
+    let answer = verdict.answer();
+    let point = answer.point;
+    if answer.number == 100 {
+        text(b"  check: passed\n");
+        return;
+    }
+    labelled(b"  check: refused at address ", point.address as u64);
+    labelled(b", depth ", point.depth as u64);
+    labelled(b", status ", answer.number as u64);
+    text(b"\n");
+}
+
+// A number of things by their name.
+fn counted(n: u64, name: &[u8]) {
+    number(n);
+    text(name);
+    if n != 1 {
+        text(b"s");
+    }
+}
+
+// A wait armed with a value above 0 ends by its count too.
+fn wait(w: Wait) {
+    if !w.armed {
+        text(b"no wait");
+    } else if w.timed {
+        text(b"waits, ");
+        counted(w.count as u64, b" tick");
+        text(b" left");
+    } else {
+        text(b"waits without timeout");
+    }
+}
+
+// An axis parameter as the board holds it.
+fn parameter(words: &[u8], values: &[i32; 103], number: u8) {
+    labelled_word(words, values::value_at(values, places::axis_place(number)));
+}
+
+// The order, with the velocity or the target position, parameter 50.
+fn motion(m: Motion, values: &[i32; 103]) {
+    let order = m.order;
+    match order {
+        Order::Stopped => text(b", order stopped"),
+        Order::Velocity => labelled_word(b", order velocity ", m.velocity),
+        Order::Position => parameter(b", order position ", values, 50),
+    }
+}
+
+fn flag(on: u8, name: &[u8]) {
+    if on != 0 {
+        text(name);
+    }
+}
+
+fn flags(f: Flags) {
+    if f.eto | f.eal | f.edv | f.epo == 0 {
+        text(b", no flag");
+        return;
+    }
+    text(b", flags");
+    flag(f.eto, b" ETO");
+    flag(f.eal, b" EAL");
+    flag(f.edv, b" EDV");
+    flag(f.epo, b" EPO");
+}
+
+// Where the program stands.
+fn place(address: u16, running: bool, depth: u8) {
+    labelled(b"; address ", address as u64);
+    if running {
+        text(b", running");
+    } else {
+        text(b", stopped");
+    }
+    labelled(b", depth ", depth as u64);
+}
+
+// What the program has worked out, what it waits for, and what the motor is ordered to do.
+fn work(core: Core, values: &[i32; 103]) {
+    labelled_word(b", accumulator ", core.accumulator);
+    labelled_word(b", X ", core.x);
+    text(b", ");
+    wait(core.wait);
+    motion(core.motion, values);
+    flags(core.flags);
+    text(b"\n");
+}
+
+// A run of so many steps, the last one's status, and what it left.
+pub(crate) fn ran(steps: usize, status: u8, core: Core, values: &[i32; 103]) {
+    text(b"  run: ");
+    counted(steps as u64, b" step");
+    labelled(b", status ", status as u64);
+    place(core.address, core.running, core.depth);
+    work(core, values);
+}
+
+// A sample's status, and what the board then holds of it.
+pub(crate) fn measured(status: u8, values: &[i32; 103], analog: Word) {
+    labelled(b"  sample: status ", status as u64);
+    parameter(b"; position ", values, 52);
+    parameter(b", reached ", values, 55);
+    labelled_word(b", AIN0 ", analog);
+    parameter(b", switches right ", values, 211);
+    parameter(b", left ", values, 212);
+    parameter(b", home ", values, 213);
+    text(b"\n");
+}
+
+pub(crate) fn ticked(count: usize, status: u8, w: Wait) {
+    text(b"  ");
+    counted(count as u64, b" tick");
+    labelled(b": status ", status as u64);
+    text(b"; ");
+    wait(w);
+    text(b"\n");
+}

@@ -1,0 +1,281 @@
+// A line of the script, and what it asks for.
+//
+// Its first byte says the kind; words stand apart by single spaces; numbers are decimal, with a minus
+// where they are negative, and fit 32 bits. A line that reads as no kind is unknown, whatever it holds.
+ghost use mathlib.Core.Path.{_≡_};
+use pins::Inputs;
+use pins::Signals;
+use sampling::Readings;
+use sampling::Sample;
+use wire::Command;
+use words::Word;
+
+pub(crate) enum Line {
+    // A new board; the words from the third byte on are its heading.
+    Heading,
+    // The words from the third byte on.
+    Remark,
+    // A command of four numbers; the words that name it begin at this place.
+    Tell(usize),
+    Check,
+    // One number, the budget.
+    Run,
+    // Sixteen numbers, a sample.
+    Measure,
+    // One number, how many.
+    Ticks,
+    Unknown,
+}
+
+// A number, and where it ends: 0 where there is none that fits.
+struct Number {
+    value: Word,
+    next: usize,
+}
+
+// What the digits from a place on make, and where they end.
+struct Spelt {
+    value: u64,
+    next: usize,
+}
+
+// More ticks than this in one line are taken for a slip.
+const MOST_TICKS: i32 = 100000;
+
+fn wide(b: u8) -> u64
+    ensures { λ r. ⌜ r ≡ b ⌝ }
+{
+    b as u64
+}
+
+fn is_digit(b: u8) -> bool {
+    48 <= b && b <= 57
+}
+
+// A number with one digit more. One that no word holds stays as it is, and is refused for its size.
+fn grown(n: u64, b: u8) -> u64 {
+    if n <= 4294967296 && 48 <= b {
+        n * 10 + wide(b - 48)
+    } else {
+        n
+    }
+}
+
+fn digits(line: &[u8], from: usize) -> Spelt {
+    let mut value = 0u64;
+    let mut at = from;
+    while at < line.len() {
+        let b = line[at];
+        if !is_digit(b) {
+            break;
+        }
+        value = grown(value, b);
+        at += 1;
+    }
+    Spelt {
+        value: value,
+        next: at,
+    }
+}
+
+// Where a number that is asked for cannot be read.
+fn nothing() -> Number {
+    Number {
+        value: Word { v: 0 },
+        next: 0,
+    }
+}
+
+// A number that was read, where it fits a word.
+fn fitting(minus: bool, value: u64, next: usize) -> Number {
+    if minus {
+        if value <= 2147483648 {
+            let bits = (4294967296 - value) % 4294967296;
+            return Number {
+                value: words::of_bits(bits as u32),
+                next: next,
+            };
+        }
+    } else if value < 2147483648 {
+        return Number {
+            value: words::of_bits(value as u32),
+            next: next,
+        };
+    }
+    nothing()
+}
+
+fn number_at(line: &[u8], from: usize) -> Number {
+    if line.len() <= from {
+        return nothing();
+    }
+    let minus = line[from] == b'-';
+    let start = if minus { from + 1 } else { from };
+    let read = digits(line, start);
+    let next = read.next;
+    if next == start {
+        return nothing();
+    }
+    fitting(minus, read.value, next)
+}
+
+// Behind a space at a place: 0 where none is there.
+fn behind_space(line: &[u8], at: usize) -> usize {
+    if at < line.len() && line[at] == b' ' {
+        at + 1
+    } else {
+        0
+    }
+}
+
+// So many numbers, each behind a space, from the second byte on. Answers where they end, or 0 where
+// the line has not so many.
+fn numbers(line: &[u8], count: usize, out: &mut [i32; 16]) -> usize {
+    let mut at = 1;
+    let mut i = 0;
+    while i < 16 {
+        if i == count {
+            break;
+        }
+        let read = number_at(line, behind_space(line, at));
+        at = read.next;
+        if at == 0 {
+            break;
+        }
+        let value = read.value;
+        let v = value.v;
+        out[i] = v;
+        i += 1;
+    }
+    at
+}
+
+fn spaced(line: &[u8], kind: Line) -> Line {
+    if behind_space(line, 1) == 0 {
+        Line::Unknown
+    } else {
+        kind
+    }
+}
+
+fn is_byte(n: i32) -> bool {
+    0 <= n && n < 256
+}
+
+// A command line: four numbers, the first three of them bytes, and the words that name it.
+fn command(line: &[u8], out: &mut [i32; 16]) -> Line {
+    let end = numbers(line, 4, out);
+    let words_at = behind_space(line, end);
+    let bytes = is_byte(out[0]) && is_byte(out[1]) && is_byte(out[2]);
+    if end == 0 || words_at == 0 || !bytes {
+        return Line::Unknown;
+    }
+    Line::Tell(words_at)
+}
+
+// A line of so many numbers and nothing behind them.
+fn alone(line: &[u8], count: usize, kind: Line, out: &mut [i32; 16]) -> Line {
+    let end = numbers(line, count, out);
+    if end == 0 || end != line.len() {
+        return Line::Unknown;
+    }
+    kind
+}
+
+// A line of one number, from 0 to a highest.
+fn amount(line: &[u8], most: i32, kind: Line, out: &mut [i32; 16]) -> Line {
+    let read = alone(line, 1, kind, out);
+    let n = out[0];
+    if 0 <= n && n <= most {
+        read
+    } else {
+        Line::Unknown
+    }
+}
+
+// The kind of a line, and its numbers. What they may be is the board's to judge.
+pub(crate) fn read(line: &[u8], out: &mut [i32; 16]) -> Line {
+    if line.len() == 0 {
+        return Line::Unknown;
+    }
+    match line[0] {
+        b'=' => spaced(line, Line::Heading),
+        b'#' => spaced(line, Line::Remark),
+        b'd' => command(line, out),
+        b'c' => {
+            if line.len() == 1 {
+                Line::Check
+            } else {
+                Line::Unknown
+            }
+        }
+        b'r' => amount(line, 2147483647, Line::Run, out),
+        b's' => alone(line, 16, Line::Measure, out),
+        b't' => amount(line, MOST_TICKS, Line::Ticks, out),
+        _ => Line::Unknown,
+    }
+}
+
+// A number by its bits, which for one from 0 up are itself.
+fn sized(n: i32) -> usize {
+    words::bits_of(Word { v: n }) as usize
+}
+
+// A line's first number, where it is an amount.
+pub(crate) fn amount_of(read: &[i32; 16]) -> usize {
+    sized(read[0])
+}
+
+fn byte(n: i32) -> u8 {
+    (sized(n) % 256) as u8
+}
+
+// The command that a line's numbers make.
+pub(crate) fn command_of(read: &[i32; 16]) -> Command {
+    Command {
+        number: byte(read[0]),
+        kind: byte(read[1]),
+        motor: byte(read[2]),
+        value: Word { v: read[3] },
+    }
+}
+
+fn readings(read: &[i32; 16]) -> Readings {
+    Readings {
+        ramp_position: read[0],
+        actual_position: read[1],
+        reached: read[2],
+        right: read[3],
+        left: read[4],
+        home: read[5],
+        supply_voltage: read[6],
+        temperature: read[7],
+    }
+}
+
+fn inputs(read: &[i32; 16]) -> Inputs {
+    Inputs {
+        digital_0: Word { v: read[8] },
+        digital_1: Word { v: read[9] },
+        analog_0: read[10],
+        analog_1: read[11],
+        analog_2: read[12],
+    }
+}
+
+fn signals(read: &[i32; 16]) -> Signals {
+    Signals {
+        eal: Word { v: read[13] },
+        edv: Word { v: read[14] },
+        epo: Word { v: read[15] },
+    }
+}
+
+// The sample that a line's numbers make, in the order of its fields.
+pub(crate) fn sample_of(read: &[i32; 16]) -> Sample {
+    Sample {
+        readings: readings(read),
+        inputs: inputs(read),
+        signals: signals(read),
+    }
+}

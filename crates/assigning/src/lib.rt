@@ -2,15 +2,52 @@
 // them through.
 ghost use mathlib.Core.Path.{_≡_};
 ghost use Rattle.assigning.specs.Assigning as spec;
+ghost use Rattle.settings.specs.Settings.{kept, isGlobal, guarded};
 use effects::Effect;
+use settings::bank_place;
 use status::Status;
 use words::Word;
+
+// What is kept of a word that a working value is set to: the lock keeps 1 or 0.
+fn kept(place: usize, w: Word) -> Word
+    ensures { λ r. ⌜ r ≡ kept place w ⌝ }
+{
+    if place == bank_place(0, 73) {
+        if order::equals(w, Word { v: 1234 }) {
+            Word { v: 1 }
+        } else {
+            Word { v: 0 }
+        }
+    } else {
+        w
+    }
+}
+
+// Whether the value at a place is a global, which is written to its cell at once.
+fn is_global(place: usize) -> bool
+    ensures { λ r. ⌜ r ≡ isGlobal place ⌝ }
+{
+    43 <= place && place < 47
+}
+
+// Whether the lock guards the setting of the value at a place: 66, 76 and 77.
+fn guarded(place: usize) -> bool
+    ensures { λ r. ⌜ r ≡ guarded place ⌝ }
+{
+    if place == bank_place(0, 66) {
+        return true;
+    }
+    if place == bank_place(0, 76) {
+        return true;
+    }
+    place == bank_place(0, 77)
+}
 
 // Whether the lock forbids to set a value.
 fn shut(place: usize, values: &[i32; 103]) -> bool
     ensures { λ r. ⌜ r ≡ spec.shut place (now (values .entry)) ⌝ }
 {
-    if settings::guarded(place) {
+    if guarded(place) {
         settings::locked(values)
     } else {
         false
@@ -24,13 +61,13 @@ pub fn assign(place: usize, w: Word, values: &[i32; 103]) -> Effect
     if place == places::axis_place(50) {
         return Effect::Move(w);
     }
-    if !settings::is_global(place) {
+    if !is_global(place) {
         return Effect::Set(place, w);
     }
     if shut(place, values) {
         return Effect::Refused(Status::Locked);
     }
-    Effect::Global(place, settings::kept(place, w))
+    Effect::Global(place, kept(place, w))
 }
 
 // AAP and AGP: the accumulator, which is judged now.

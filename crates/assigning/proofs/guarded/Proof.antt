@@ -1,9 +1,9 @@
--- `settings::guarded` meets its contract. Assumes nothing.
+-- `assigning::guarded` meets its contract. Assumes nothing.
 use borrow.Author.Tests.{eq-eqb, ne-eqb}
 use Rattle.settings.specs.Settings.{guarded}
 use borrow.Author.Needs.{needs}
-use Rattle.settings.proofs.guarded.Statement.{statement}
-use Rattle.settings.proofs.guarded.Tie as tie
+use Rattle.assigning.proofs.guarded.Statement.{statement}
+use Rattle.assigning.proofs.guarded.Tie as tie
 
 returns : tie.Need-returns
 unfolding guarded

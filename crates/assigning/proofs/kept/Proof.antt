@@ -1,9 +1,9 @@
--- `settings::kept` meets its contract. Assumes nothing.
+-- `assigning::kept` meets its contract. Assumes nothing.
 use borrow.Author.Tests.{eq-eqb, ne-eqb}
 use Rattle.settings.specs.Settings.{kept}
 use borrow.Author.Needs.{needs}
-use Rattle.settings.proofs.kept.Statement.{statement}
-use Rattle.settings.proofs.kept.Tie as tie
+use Rattle.assigning.proofs.kept.Statement.{statement}
+use Rattle.assigning.proofs.kept.Tie as tie
 
 returns : tie.Need-returns
 unfolding kept

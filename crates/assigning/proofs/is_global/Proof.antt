@@ -1,9 +1,9 @@
--- `settings::is_global` meets its contract. Assumes nothing.
+-- `assigning::is_global` meets its contract. Assumes nothing.
 use borrow.Author.Tests.{le-leb, lt-leb}
 use Rattle.settings.specs.Settings.{isGlobal}
 use Rattle.settings.proofs.Counts.{axis-rows, parameter-rows}
-use Rattle.settings.proofs.is_global.Statement.{statement}
-use Rattle.settings.proofs.is_global.Tie as tie
+use Rattle.assigning.proofs.is_global.Statement.{statement}
+use Rattle.assigning.proofs.is_global.Tie as tie
 
 returns : tie.Need-returns
 unfolding isGlobal

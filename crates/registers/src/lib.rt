@@ -115,11 +115,13 @@ impl Core {
     pub fn in_range(self) -> bool
         ensures { λ r. ⌜ r ≡ coreInRange self ⌝ }
     {
-        if self.address <= 1024 && self.depth <= 8 {
-            self.flags.in_range()
-        } else {
-            false
+        if 1024 < self.address {
+            return false;
         }
+        if 8 < self.depth {
+            return false;
+        }
+        self.flags.in_range()
     }
 
     // The wait after 10 ms more, and nothing else changed.

@@ -1,10 +1,10 @@
 -- A command with 0 in the fields that it does not use does the same. Assumes nothing.
 use Prim.Native.Nat.{ℕ}
 use mathlib.Core.Path.{_≡_, refl, ap, _∙_}
-use mathlib.Core.Bool.{Bool, true, false, true≢false}
+use mathlib.Core.Bool.{Bool, true, false, not, true≢false, false≢true}
 use mathlib.Core.List.{List}
 use borrow.Author.Tests.{eqb-true}
-use lib.Dec.{eqb}
+use lib.Dec.{eqb, leb}
 use lib.IntN.{ℤ}
 use Rattle.words.specs.Word.{pick}
 use Rattle.words.specs.declared.Word.{Word}
@@ -13,7 +13,9 @@ use Rattle.registers.specs.Registers.{withNumbers, next}
 use Rattle.registers.specs.declared.Core.{Core}
 use Rattle.registers.specs.declared.Download.{Download}
 use Rattle.settings.specs.Settings.{locked}
-use Rattle.status.specs.Status.{isDone}
+use Rattle.calculating.specs.Calculate.{calculated}
+use Rattle.numbers.specs.Numbers as numbers
+use Rattle.status.specs.Status.{inOrder, isDone}
 use Rattle.status.specs.declared.Status.the-variants.{Done}
 use Rattle.fields.specs.Fields as fields
 use Rattle.judge.specs.Judge.{judged, isFlow, isReading}
@@ -23,11 +25,12 @@ use Rattle.effects.specs.Effects.{Work, applied}
 use Rattle.effects.specs.declared.Effect.{Effect}
 use Rattle.deciding.specs.Deciding.{decidedBy, decided, worked}
 use Rattle.stepping.specs.Step.{State, Pins, after, only, afterFlow, afterWork, carried, obeyed}
+use Rattle.directing.specs.Direct as directing
 use Rattle.directing.specs.Direct.{directed, changed}
 use Rattle.control.specs.Control as control
 use Rattle.board.specs.declared.Registers.{Registers}
 use Rattle.controlling.specs.Controlling as controlling
-use Rattle.ignoring.specs.Unused.{among, noType, noMotor, noValue, noControlType, noControlValue, usedType, usedMotor, usedValue, plain, plainControl}
+use Rattle.ignoring.specs.Unused.{noType, noMotor, noValue, noControlType, noControlValue, usedType, usedMotor, usedValue, plain, plainControl, answers, controlAnswers}
 use Rattle.ignoring.specs.Laws.{unanswered, silent, Laws}
 
 -- ---- two picks by one test, as seen by a function
@@ -39,60 +42,99 @@ module _ {A B : Type 0} (f : A → B) where
 same : {A : Type 0} (b : Bool) {x y z w : A} → (b ≡ true → x ≡ z) → (b ≡ false → y ≡ w) → pick b x y ≡ pick b z w
 same b g h = seen (λ a. a) b g h
 
--- none of two tests holds
+-- by a test
+tested : {A : Type 0} (b : Bool) → (b ≡ true → A) → (b ≡ false → A) → A
+tested true g h = g refl
+tested false g h = h refl
+
+-- none of two tests holds, or the second does
 none : (b c : Bool) → pick b true c ≡ false → (b ≡ false) × (c ≡ false)
 none true c e = absurd (true≢false e)
 none false c e = (refl, e)
 
 -- ---- a field that a command uses stays
-module _ (c : Command) (l : List ℕ) where
-  kind : among (c .number) l ≡ false → usedType l c ≡ c .kind
+module _ (c : Command) {unused : Bool} where
+  kind : unused ≡ false → usedType unused c ≡ c .kind
   unfolding usedType
   kind u = simp u
 
-  motor : among (c .number) l ≡ false → usedMotor l c ≡ c .motor
+  motor : unused ≡ false → usedMotor unused c ≡ c .motor
   unfolding usedMotor
   motor u = simp u
 
-  value : among (c .number) l ≡ false → usedValue l c ≡ c .value
+  value : unused ≡ false → usedValue unused c ≡ c .value
   unfolding usedValue
   value u = simp u
 
--- a number that is known is not among those of a list
-apart : (n k : ℕ) (l : List ℕ) → eqb n k ≡ true → among k l ≡ false → among n l ≡ false
-apart n k l q u = ap (λ m. among m l) (eqb-true n k q) ∙ u
+-- what is known of a number
+apart : (f : ℕ → Bool) (n k : ℕ) → eqb n k ≡ true → f k ≡ false → f n ≡ false
+apart f n k q u = ap f (eqb-true n k q) ∙ u
+
+-- ---- the three commands of which only some types use a field
+module _ (c : Command) where
+  wait-judged : eqb (c .number) 27 ≡ true → fields.wait (plain c) ≡ fields.wait c
+  wait-judged q =
+      let k = kind c (apart noType (c .number) 27 q refl) in
+      let v = value c (apart (noValue (c .kind)) (c .number) 27 q refl) in
+      tested (eqb (c .kind) 0) (λ e. simp (k, v, e)) (λ e. simp (k, v, motor c (apart (noMotor (c .kind)) (c .number) 27 q e)))
+
+  calc-judged : eqb (c .number) 19 ≡ true → fields.calc (plain c) ≡ fields.calc c
+  calc-judged q =
+      let k = kind c (apart noType (c .number) 19 q refl) in
+      tested (eqb (c .kind) 8) (λ e. simp (k, eqb-true (c .kind) 8 e)) (λ e. simp (k, value c (apart (noValue (c .kind)) (c .number) 19 q e)))
+
+  calc-same : (accumulator x : Word) → eqb (c .number) 19 ≡ true
+      → numbers.calc (plain c .kind) (plain c .value) accumulator x ≡ numbers.calc (c .kind) (c .value) accumulator x
+  unfolding numbers.calc calculated
+  calc-same accumulator x q =
+      let k = kind c (apart noType (c .number) 19 q refl) in
+      tested (eqb (c .kind) 8) (λ e. simp (k, eqb-true (c .kind) 8 e)) (λ e. simp (k, value c (apart (noValue (c .kind)) (c .number) 19 q e)))
+
+  run-judged : (downloading : Bool) → eqb (c .number) 129 ≡ true
+      → inOrder (not downloading) true (leb (plainControl c .kind) 1) (control.begins (plainControl c .kind) (plainControl c .value .v)) true
+      ≡ inOrder (not downloading) true (leb (c .kind) 1) (control.begins (c .kind) (c .value .v)) true
+  run-judged downloading q =
+      let k = kind c (apart noControlType (c .number) 129 q refl) in
+      tested (eqb (c .kind) 0) (λ e. simp (k, e)) (λ e. simp (k, value c (apart (noControlValue (c .kind)) (c .number) 129 q e)))
+
+  begun-same : (core : Core) (e : List ℕ) (d : Download) → eqb (c .number) 129 ≡ true
+      → control.with (control.begun (plainControl c .kind) (plainControl c .value .v) core e) d ≡ control.with (control.begun (c .kind) (c .value .v) core e) d
+  unfolding control.begun
+  begun-same core e d q =
+      let k = kind c (apart noControlType (c .number) 129 q refl) in
+      tested (eqb (c .kind) 0) (λ z. simp (k, z)) (λ z. simp (k, value c (apart (noControlValue (c .kind)) (c .number) 129 q z)))
 
 -- ---- what the bytes decide
 judged-same : (c : Command) → judged (plain c) ≡ judged c
 unfolding judged fields.sap fields.sgp
 judged-same c =
     let n = c .number in
-    same (eqb n 1) (λ q. simp (motor c noMotor (apart n 1 noMotor q refl)))
-    (λ _. (same (eqb n 2) (λ q. simp (motor c noMotor (apart n 2 noMotor q refl)))
-    (λ _. (same (eqb n 3) (λ q. simp (motor c noMotor (apart n 3 noMotor q refl)))
-    (λ _. (same (eqb n 4) (λ q. simp (kind c noType (apart n 4 noType q refl), motor c noMotor (apart n 4 noMotor q refl)))
-    (λ _. (same (eqb n 5) (λ q. simp (kind c noType (apart n 5 noType q refl), motor c noMotor (apart n 5 noMotor q refl), value c noValue (apart n 5 noValue q refl)))
-    (λ _. (same (eqb n 6) (λ q. simp (kind c noType (apart n 6 noType q refl), motor c noMotor (apart n 6 noMotor q refl)))
-    (λ _. (same (eqb n 7) (λ q. simp (kind c noType (apart n 7 noType q refl), motor c noMotor (apart n 7 noMotor q refl)))
-    (λ _. (same (eqb n 8) (λ q. simp (kind c noType (apart n 8 noType q refl), motor c noMotor (apart n 8 noMotor q refl)))
-    (λ _. (same (eqb n 9) (λ q. simp (kind c noType (apart n 9 noType q refl), motor c noMotor (apart n 9 noMotor q refl), value c noValue (apart n 9 noValue q refl)))
-    (λ _. (same (eqb n 10) (λ q. simp (kind c noType (apart n 10 noType q refl), motor c noMotor (apart n 10 noMotor q refl)))
-    (λ _. (same (eqb n 11) (λ q. simp (kind c noType (apart n 11 noType q refl), motor c noMotor (apart n 11 noMotor q refl)))
-    (λ _. (same (eqb n 12) (λ q. simp (kind c noType (apart n 12 noType q refl), motor c noMotor (apart n 12 noMotor q refl)))
-    (λ _. (same (eqb n 14) (λ q. simp (kind c noType (apart n 14 noType q refl), motor c noMotor (apart n 14 noMotor q refl), value c noValue (apart n 14 noValue q refl)))
-    (λ _. (same (eqb n 15) (λ q. simp (kind c noType (apart n 15 noType q refl), motor c noMotor (apart n 15 noMotor q refl)))
-    (λ _. (same (eqb n 19) (λ q. simp (kind c noType (apart n 19 noType q refl), value c noValue (apart n 19 noValue q refl)))
+    same (eqb n 1) (λ q. simp (motor c (apart (noMotor (c .kind)) n 1 q refl)))
+    (λ _. (same (eqb n 2) (λ q. simp (motor c (apart (noMotor (c .kind)) n 2 q refl)))
+    (λ _. (same (eqb n 3) (λ q. simp (motor c (apart (noMotor (c .kind)) n 3 q refl)))
+    (λ _. (same (eqb n 4) (λ q. simp (kind c (apart noType n 4 q refl), motor c (apart (noMotor (c .kind)) n 4 q refl)))
+    (λ _. (same (eqb n 5) (λ q. simp (kind c (apart noType n 5 q refl), motor c (apart (noMotor (c .kind)) n 5 q refl), value c (apart (noValue (c .kind)) n 5 q refl)))
+    (λ _. (same (eqb n 6) (λ q. simp (kind c (apart noType n 6 q refl), motor c (apart (noMotor (c .kind)) n 6 q refl)))
+    (λ _. (same (eqb n 7) (λ q. simp (kind c (apart noType n 7 q refl), motor c (apart (noMotor (c .kind)) n 7 q refl)))
+    (λ _. (same (eqb n 8) (λ q. simp (kind c (apart noType n 8 q refl), motor c (apart (noMotor (c .kind)) n 8 q refl)))
+    (λ _. (same (eqb n 9) (λ q. simp (kind c (apart noType n 9 q refl), motor c (apart (noMotor (c .kind)) n 9 q refl), value c (apart (noValue (c .kind)) n 9 q refl)))
+    (λ _. (same (eqb n 10) (λ q. simp (kind c (apart noType n 10 q refl), motor c (apart (noMotor (c .kind)) n 10 q refl)))
+    (λ _. (same (eqb n 11) (λ q. simp (kind c (apart noType n 11 q refl), motor c (apart (noMotor (c .kind)) n 11 q refl)))
+    (λ _. (same (eqb n 12) (λ q. simp (kind c (apart noType n 12 q refl), motor c (apart (noMotor (c .kind)) n 12 q refl)))
+    (λ _. (same (eqb n 14) (λ q. simp (kind c (apart noType n 14 q refl), motor c (apart (noMotor (c .kind)) n 14 q refl), value c (apart (noValue (c .kind)) n 14 q refl)))
+    (λ _. (same (eqb n 15) (λ q. simp (kind c (apart noType n 15 q refl), motor c (apart (noMotor (c .kind)) n 15 q refl)))
+    (λ _. (same (eqb n 19) (calc-judged c)
     (λ _. (same (eqb n 20) (λ _. refl)
-    (λ _. (same (eqb n 21) (λ q. simp (kind c noType (apart n 21 noType q refl), value c noValue (apart n 21 noValue q refl)))
-    (λ _. (same (eqb n 22) (λ q. simp (value c noValue (apart n 22 noValue q refl)))
-    (λ _. (same (eqb n 23) (λ q. simp (value c noValue (apart n 23 noValue q refl)))
+    (λ _. (same (eqb n 21) (λ q. simp (kind c (apart noType n 21 q refl), value c (apart (noValue (c .kind)) n 21 q refl)))
+    (λ _. (same (eqb n 22) (λ q. simp (value c (apart (noValue (c .kind)) n 22 q refl)))
+    (λ _. (same (eqb n 23) (λ q. simp (value c (apart (noValue (c .kind)) n 23 q refl)))
     (λ _. (same (eqb n 24) (λ _. refl)
-    (λ _. (same (eqb n 27) (λ q. simp (kind c noType (apart n 27 noType q refl), motor c noMotor (apart n 27 noMotor q refl), value c noValue (apart n 27 noValue q refl)))
+    (λ _. (same (eqb n 27) (wait-judged c)
     (λ _. (same (eqb n 28) (λ _. refl)
-    (λ _. (same (eqb n 33) (λ q. simp (kind c noType (apart n 33 noType q refl)))
-    (λ _. (same (eqb n 34) (λ q. simp (kind c noType (apart n 34 noType q refl), motor c noMotor (apart n 34 noMotor q refl)))
-    (λ _. (same (eqb n 35) (λ q. simp (kind c noType (apart n 35 noType q refl), motor c noMotor (apart n 35 noMotor q refl)))
-    (λ _. (same (eqb n 36) (λ q. simp (kind c noType (apart n 36 noType q refl)))
+    (λ _. (same (eqb n 33) (λ q. simp (kind c (apart noType n 33 q refl)))
+    (λ _. (same (eqb n 34) (λ q. simp (kind c (apart noType n 34 q refl), motor c (apart (noMotor (c .kind)) n 34 q refl)))
+    (λ _. (same (eqb n 35) (λ q. simp (kind c (apart noType n 35 q refl), motor c (apart (noMotor (c .kind)) n 35 q refl)))
+    (λ _. (same (eqb n 36) (λ q. simp (kind c (apart noType n 36 q refl)))
     (λ _. refl)))))))))))))))))))))))))))))))))))))))))))))))))))
 
 -- ---- the program's flow, what is read, and what is decided
@@ -100,11 +142,11 @@ flowed-same : (c : Command) (core : Core) (e : List ℕ) (values : List ℤ) →
 unfolding flowed waitedStep
 flowed-same c core e values =
     let n = c .number in
-    same (eqb n 21) (λ q. simp (kind c noType (apart n 21 noType q refl), value c noValue (apart n 21 noValue q refl)))
-    (λ _. (same (eqb n 22) (λ q. simp (value c noValue (apart n 22 noValue q refl)))
-    (λ _. (same (eqb n 23) (λ q. simp (value c noValue (apart n 23 noValue q refl)))
+    same (eqb n 21) (λ q. simp (kind c (apart noType n 21 q refl), value c (apart (noValue (c .kind)) n 21 q refl)))
+    (λ _. (same (eqb n 22) (λ q. simp (value c (apart (noValue (c .kind)) n 22 q refl)))
+    (λ _. (same (eqb n 23) (λ q. simp (value c (apart (noValue (c .kind)) n 23 q refl)))
     (λ _. (same (eqb n 24) (λ _. refl)
-    (λ _. (same (eqb n 27) (λ q. simp (kind c noType (apart n 27 noType q refl), value c noValue (apart n 27 noValue q refl)))
+    (λ _. (same (eqb n 27) (λ q. simp (kind c (apart noType n 27 q refl), value c (apart (noValue (c .kind)) n 27 q refl)))
     (λ _. refl)))))))))
 
 read-same : (c : Command) (core : Core) (values : List ℤ) (outputs digital : List ℕ) (analog : List ℤ) → isReading (c .number) ≡ true
@@ -112,9 +154,9 @@ read-same : (c : Command) (core : Core) (values : List ℤ) (outputs digital : L
 unfolding read isReading
 read-same c core values outputs digital analog h =
     let n = c .number in
-    same (eqb n 6) (λ q. simp (kind c noType (apart n 6 noType q refl)))
-    (λ a. same (eqb n 10) (λ q. simp (kind c noType (apart n 10 noType q refl), motor c noMotor (apart n 10 noMotor q refl)))
-    (λ b. let q : eqb n 15 ≡ true = rw (a, b) at h in simp (kind c noType (apart n 15 noType q refl), motor c noMotor (apart n 15 noMotor q refl))))
+    same (eqb n 6) (λ q. simp (kind c (apart noType n 6 q refl)))
+    (λ a. same (eqb n 10) (λ q. simp (kind c (apart noType n 10 q refl), motor c (apart (noMotor (c .kind)) n 10 q refl)))
+    (λ b. let q : eqb n 15 ≡ true = rw (a, b) at h in simp (kind c (apart noType n 15 q refl), motor c (apart (noMotor (c .kind)) n 15 q refl))))
 
 decided-same : (c : Command) (core : Core) (values : List ℤ) → isFlow (c .number) ≡ false → decided (plain c) core values ≡ decided c core values
 unfolding decidedBy isFlow
@@ -125,23 +167,23 @@ decided-same c core values h =
     let d = none (eqb n 23) _ (b .1) in
     let e = none (eqb n 24) _ (d .1) in
     let f = none (eqb n 27) _ (e .1) in
-    same (eqb n 1) (λ q. simp (value c noValue (apart n 1 noValue q refl)))
-    (λ ror. (same (eqb n 2) (λ q. simp (value c noValue (apart n 2 noValue q refl)))
+    same (eqb n 1) (λ q. simp (value c (apart (noValue (c .kind)) n 1 q refl)))
+    (λ ror. (same (eqb n 2) (λ q. simp (value c (apart (noValue (c .kind)) n 2 q refl)))
     (λ rol. (same (eqb n 3) (λ _. refl)
-    (λ mst. (same (eqb n 4) (λ q. simp (kind c noType (apart n 4 noType q refl), value c noValue (apart n 4 noValue q refl)))
-    (λ _. (same (eqb n 5) (λ q. simp (kind c noType (apart n 5 noType q refl), value c noValue (apart n 5 noValue q refl)))
-    (λ _. (same (eqb n 7) (λ q. simp (kind c noType (apart n 7 noType q refl)))
-    (λ _. (same (eqb n 8) (λ q. simp (kind c noType (apart n 8 noType q refl)))
-    (λ _. (same (eqb n 9) (λ q. simp (kind c noType (apart n 9 noType q refl), motor c noMotor (apart n 9 noMotor q refl), value c noValue (apart n 9 noValue q refl)))
-    (λ _. (same (eqb n 11) (λ q. simp (kind c noType (apart n 11 noType q refl), motor c noMotor (apart n 11 noMotor q refl)))
-    (λ _. (same (eqb n 12) (λ q. simp (kind c noType (apart n 12 noType q refl), motor c noMotor (apart n 12 noMotor q refl)))
-    (λ _. (same (eqb n 14) (λ q. simp (kind c noType (apart n 14 noType q refl), value c noValue (apart n 14 noValue q refl)))
-    (λ _. (same (eqb n 19) (λ q. simp (kind c noType (apart n 19 noType q refl), value c noValue (apart n 19 noValue q refl)))
-    (λ _. (same (eqb n 20) (λ q. simp (value c noValue (apart n 20 noValue q refl)))
-    (λ comp. (same (eqb n 33) (λ q. simp (kind c noType (apart n 33 noType q refl)))
-    (λ _. (same (eqb n 34) (λ q. simp (kind c noType (apart n 34 noType q refl)))
-    (λ _. (same (eqb n 35) (λ q. simp (kind c noType (apart n 35 noType q refl), motor c noMotor (apart n 35 noMotor q refl)))
-    (λ _. simp (kind c noType (simp (ror, rol, mst, comp, b .0, d .0, e .0, f .1))))))))))))))))))))))))))))))))))
+    (λ mst. (same (eqb n 4) (λ q. simp (kind c (apart noType n 4 q refl), value c (apart (noValue (c .kind)) n 4 q refl)))
+    (λ _. (same (eqb n 5) (λ q. simp (kind c (apart noType n 5 q refl), value c (apart (noValue (c .kind)) n 5 q refl)))
+    (λ _. (same (eqb n 7) (λ q. simp (kind c (apart noType n 7 q refl)))
+    (λ _. (same (eqb n 8) (λ q. simp (kind c (apart noType n 8 q refl)))
+    (λ _. (same (eqb n 9) (λ q. simp (kind c (apart noType n 9 q refl), motor c (apart (noMotor (c .kind)) n 9 q refl), value c (apart (noValue (c .kind)) n 9 q refl)))
+    (λ _. (same (eqb n 11) (λ q. simp (kind c (apart noType n 11 q refl), motor c (apart (noMotor (c .kind)) n 11 q refl)))
+    (λ _. (same (eqb n 12) (λ q. simp (kind c (apart noType n 12 q refl), motor c (apart (noMotor (c .kind)) n 12 q refl)))
+    (λ _. (same (eqb n 14) (λ q. simp (kind c (apart noType n 14 q refl), value c (apart (noValue (c .kind)) n 14 q refl)))
+    (λ _. (same (eqb n 19) (calc-same c (core .accumulator) (core .x))
+    (λ _. (same (eqb n 20) (λ q. simp (value c (apart (noValue (c .kind)) n 20 q refl)))
+    (λ comp. (same (eqb n 33) (λ q. simp (kind c (apart noType n 33 q refl)))
+    (λ _. (same (eqb n 34) (λ q. simp (kind c (apart noType n 34 q refl)))
+    (λ _. (same (eqb n 35) (λ q. simp (kind c (apart noType n 35 q refl), motor c (apart (noMotor (c .kind)) n 35 q refl)))
+    (λ _. let u : noType n ≡ false = simp (ror, rol, mst, comp, b .0, d .0, e .0, f .1) in simp (kind c u))))))))))))))))))))))))))))))))
 
 worked-same : (c : Command) (core : Core) (values : List ℤ) (outputs store : List ℕ) → isFlow (c .number) ≡ false
     → worked (plain c) core values outputs store ≡ worked c core values outputs store
@@ -178,6 +220,32 @@ direct-same c core values outputs digital analog store =
     (λ h. seen unanswered (isDone (judged c))
     (λ _. seen unanswered (isReading (c .number)) (λ _. refl) (λ _. changed-same c core values outputs store h)) (λ _. refl)))
 
+-- the value answered, where it is not the value sent
+given : (c : Command) (core : Core) → answers (c .number) ≡ true → isReading (c .number) ≡ false → directing.answer (plain c) core ≡ directing.answer c core
+unfolding isReading
+given c core h r =
+    let n = c .number in
+    let a = none (eqb n 6) _ r in
+    let b = none (eqb n 10) _ (a .1) in
+    same (eqb n 19) (λ _. refl) (λ d. same (eqb n 33) (λ _. refl) (λ e. absurd (false≢true (rw (a .0, b .0, b .1, d, e) at h))))
+
+answered-same : (c : Command) (core : Core) (values : List ℤ) (outputs store : List ℕ) → isFlow (c .number) ≡ false → answers (c .number) ≡ true
+    → isReading (c .number) ≡ false → changed (plain c) core values outputs store ≡ changed c core values outputs store
+unfolding changed
+answered-same c core values outputs store h a r =
+    simp (worked-same c core values outputs store h, given c (worked c core values outputs store .core) a r)
+
+answer-same : (c : Command) (core : Core) (values : List ℤ) (outputs digital : List ℕ) (analog : List ℤ) (store : List ℕ)
+    → answers (c .number) ≡ true → directed (plain c) core values outputs digital analog store ≡ directed c core values outputs digital analog store
+unfolding directed
+answer-same c core values outputs digital analog store a =
+    rw (judged-same c)
+    (same (isFlow (c .number)) (λ _. refl)
+    (λ h. same (isDone (judged c))
+    (λ _. same (isReading (c .number))
+    (λ r. ap (λ (w : Word). directing.direct (directing.answered Done w core) values outputs store) (read-same c core values outputs digital analog r))
+    (λ r. answered-same c core values outputs store h a r)) (λ _. refl)))
+
 -- ---- control commands
 module _ (c : Command) where
   control-judged : (running downloading locked : Bool) → control.judged (plainControl c) running downloading locked ≡ control.judged c running downloading locked
@@ -185,25 +253,25 @@ module _ (c : Command) where
   control-judged running downloading locked =
       let n = c .number in
       same (eqb n 128) (λ _. refl)
-      (λ _. (same (eqb n 129) (λ q. simp (kind c noControlType (apart n 129 noControlType q refl), value c noControlValue (apart n 129 noControlValue q refl)))
+      (λ _. (same (eqb n 129) (run-judged c downloading)
       (λ _. (same (eqb n 130) (λ _. refl)
       (λ _. (same (eqb n 131) (λ _. refl)
-      (λ _. (same (eqb n 132) (λ q. simp (value c noControlValue (apart n 132 noControlValue q refl)))
+      (λ _. (same (eqb n 132) (λ q. simp (value c (apart (noControlValue (c .kind)) n 132 q refl)))
       (λ _. (same (eqb n 133) (λ _. refl)
-      (λ _. (same (eqb n 134) (λ q. simp (kind c noControlType (apart n 134 noControlType q refl), value c noControlValue (apart n 134 noControlValue q refl)))
+      (λ _. (same (eqb n 134) (λ q. simp (kind c (apart noControlType n 134 q refl), value c (apart (noControlValue (c .kind)) n 134 q refl)))
       (λ _. (same (eqb n 135) (λ _. refl)
-      (λ _. (same (eqb n 137) (λ q. simp (value c noControlValue (apart n 137 noControlValue q refl)))
-      (λ _. (same (eqb n 255) (λ q. simp (value c noControlValue (apart n 255 noControlValue q refl)))
+      (λ _. (same (eqb n 137) (λ q. simp (value c (apart (noControlValue (c .kind)) n 137 q refl)))
+      (λ _. (same (eqb n 255) (λ q. simp (value c (apart (noControlValue (c .kind)) n 255 q refl)))
       (λ _. refl)))))))))))))))))))
 
   control-placed : (core : Core) (d : Download) (e : List ℕ) → control.controlled (plainControl c) core d e ≡ control.controlled c core d e
-  unfolding control.controlled control.begun
+  unfolding control.controlled
   control-placed core d e =
       let n = c .number in
       same (eqb n 128) (λ _. refl)
-      (λ _. (same (eqb n 129) (λ q. simp (kind c noControlType (apart n 129 noControlType q refl), value c noControlValue (apart n 129 noControlValue q refl)))
+      (λ _. (same (eqb n 129) (begun-same c core e d)
       (λ _. (same (eqb n 131) (λ _. refl)
-      (λ _. (same (eqb n 132) (λ q. simp (value c noControlValue (apart n 132 noControlValue q refl)))
+      (λ _. (same (eqb n 132) (λ q. simp (value c (apart (noControlValue (c .kind)) n 132 q refl)))
       (λ _. (same (eqb n 133) (λ _. refl)
       (λ _. refl)))))))))
 
@@ -223,6 +291,31 @@ module _ (c : Command) where
       rw (control-judged (r .core .running) (r .download .on) (locked (r .values)), controlled-same program r m)
       (seen silent (isDone (controlling.judgedControl c r)) (λ _. refl) (λ _. refl))
 
+  control-answer : (running : Bool) (program : List ℕ) → controlAnswers (c .number) ≡ true
+      → control.answer (plainControl c) running program ≡ control.answer c running program
+  unfolding control.answer
+  control-answer running program h =
+      let n = c .number in
+      same (eqb n 134) (λ q. simp (kind c (apart noControlType n 134 q refl), value c (apart (noControlValue (c .kind)) n 134 q refl)))
+      (λ a. same (eqb n 135) (λ _. refl) (λ b. absurd (false≢true (rw (a, b) at h))))
+
+  control-answer-same : (program : List ℕ) (r : Registers) (m : List ℕ) → controlAnswers (c .number) ≡ true
+      → controlling.obeyedControl (plainControl c) program r m ≡ controlling.obeyedControl c program r m
+  unfolding controlling.obeyedControl
+  control-answer-same program r m h =
+      simp (
+        control-judged (r .core .running) (r .download .on) (locked (r .values)),
+        controlled-same program r m,
+        control-answer (r .core .running) program h,
+      )
+
 pub laws : Laws
 laws =
-    record { judged-same = judged-same; step-same = step-same; direct-same = direct-same; control-same = control-same }
+    record {
+      judged-same = judged-same;
+      step-same = step-same;
+      direct-same = direct-same;
+      answer-same = answer-same;
+      control-same = control-same;
+      control-answer-same = control-answer-same;
+    }

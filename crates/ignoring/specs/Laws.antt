@@ -1,7 +1,8 @@
--- "Fields a command does not use are ignored": with 0 there a command does the same, with the same status. The value answered may be
--- the value sent, and is left out.
+-- "Fields a command does not use are ignored": with 0 there a command does the same, with the same status. The value answered is the
+-- same too, unless it is the value sent.
 use Prim.Native.Nat.{ℕ}
 use mathlib.Core.Path.{_≡_}
+use mathlib.Core.Bool.{true}
 use mathlib.Core.List.{List}
 use lib.IntN.{ℤ, pos}
 use Rattle.words.specs.Word.{word}
@@ -13,7 +14,7 @@ use Rattle.directing.specs.Direct.{Direct, direct, answered, directed}
 use Rattle.board.specs.declared.Registers.{Registers}
 use Rattle.outcomes.specs.Outcome.{Changed, changed, done}
 use Rattle.controlling.specs.Controlling.{obeyedControl}
-use Rattle.ignoring.specs.Unused.{plain, plainControl}
+use Rattle.ignoring.specs.Unused.{plain, plainControl, answers, controlAnswers}
 
 -- what a direct command leaves and its status, with value 0
 abbrev pub unanswered : Direct → Direct
@@ -30,5 +31,10 @@ pub record Laws : Type 0 where
   pub direct-same : (c : Command) (core : Core) (values : List ℤ) (outputs digital : List ℕ) (analog : List ℤ) (store : List ℕ)
       → unanswered (directed (plain c) core values outputs digital analog store)
       ≡ unanswered (directed c core values outputs digital analog store)
+  pub answer-same : (c : Command) (core : Core) (values : List ℤ) (outputs digital : List ℕ) (analog : List ℤ) (store : List ℕ)
+      → answers (c .number) ≡ true
+      → directed (plain c) core values outputs digital analog store ≡ directed c core values outputs digital analog store
   pub control-same : (c : Command) (program : List ℕ) (r : Registers) (m : List ℕ)
       → silent (obeyedControl (plainControl c) program r m) ≡ silent (obeyedControl c program r m)
+  pub control-answer-same : (c : Command) (program : List ℕ) (r : Registers) (m : List ℕ) → controlAnswers (c .number) ≡ true
+      → obeyedControl (plainControl c) program r m ≡ obeyedControl c program r m

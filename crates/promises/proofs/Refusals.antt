@@ -1,7 +1,7 @@
 -- The laws of commands, datagrams and runs. Assumes nothing.
 use Prim.Native.Nat.{ℕ}
 use mathlib.Core.Path.{_≡_, refl, sym, ap, _∙_}
-use mathlib.Core.Bool.{false, true≢false, _&&_}
+use mathlib.Core.Bool.{Bool, true, false, true≢false, _&&_}
 use mathlib.Core.List.{List}
 use lib.Dec.{eqb, leb}
 use lib.IntN.{pos}
@@ -44,7 +44,7 @@ use Rattle.runs.proofs.Cases.{by-run}
 use Rattle.runs.specs.declared.Ended.{Ended}
 use Rattle.runs.specs.declared.Ended.the-variants.{Length, HandedIn, Budget, Last}
 use Rattle.runs.specs.declared.Ran.{Ran}
-use Rattle.datagrams.specs.Datagram.{Board, After, board, left, answerStatus, obeyedBy, received, datagram}
+use Rattle.datagrams.specs.Datagram.{Board, After, board, left, lent, unchanged, answerStatus, obeyedBy, received, datagram}
 use Rattle.datagrams.proofs.Cases.{by-datagram}
 use Rattle.replying.specs.Reply.{byteOf, addresses, replied}
 use Rattle.datagrams.specs.declared.Answer as answers
@@ -118,6 +118,16 @@ not-ours bytes x e =
     by-datagram x (λ t y. received t x .board ≡ x → y .board ≡ x)
     (record { nothing = λ _ _ _ _. refl; damaged = λ _ q. q; whole = λ _ q. q }) bytes
     (ap (λ (t : Taken). received t x .board) e)
+
+shut : (x : Board) (t : After) (a b : Bool) → a && b ≡ false → pick a (pick b t (unchanged 23 x)) (unchanged 20 x) .board ≡ x
+shut x t true true e = absurd (true≢false e)
+shut x t true false e = refl
+shut x t false b e = refl
+
+datagram-shut : (bytes : List ℕ) (x : Board) → lent (x .program) (x .store) (x .reply) && registersInRange (x .registers) ≡ false
+    → datagram bytes x .board ≡ x
+unfolding datagram
+datagram-shut bytes x e = shut x _ (lent (x .program) (x .store) (x .reply)) (registersInRange (x .registers)) e
 
 abbrev RefusedBy : Board → After → Type 0
 RefusedBy x y =
@@ -230,6 +240,7 @@ commands =
       command-refused = command-refused;
       single-step = single-step;
       not-ours = not-ours;
+      datagram-shut = datagram-shut;
       datagram-refused = datagram-refused;
       run-refused = run-refused;
       command-in-range = λ c r p m f b h. obeyed-kept c r h p m f b;

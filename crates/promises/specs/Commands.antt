@@ -21,7 +21,7 @@ use Rattle.commands.specs.Obey.{outcome, obeyed}
 use Rattle.outcomes.specs.Outcome.{done, refused}
 use Rattle.runs.specs.Run as runs
 use Rattle.runs.specs.declared.Ran.{Ran}
-use Rattle.datagrams.specs.Datagram.{Board, board, left, datagram}
+use Rattle.datagrams.specs.Datagram.{Board, board, left, lent, datagram}
 use Rattle.replying.specs.Reply.{byteOf}
 use Rattle.datagrams.specs.declared.Answered.{Answered}
 
@@ -50,6 +50,9 @@ pub record Commands : Type 0 where
       → obeyed c r p m ≡ outcome (done Done (c .value) (stepOnce p r m .registers)) p (stepOnce p r m .store)
   -- a datagram of another length or to another address changes nothing, the reply buffer included
   pub not-ours : (bytes : List ℕ) (x : Board) → takenOf (byteOf (x .registers .values) 66) bytes ≡ NotOurs
+      → datagram bytes x .board ≡ x
+  -- nor does one for which lent memory has another length or the registers are out of range, answered 20 and 23
+  pub datagram-shut : (bytes : List ℕ) (x : Board) → lent (x .program) (x .store) (x .reply) && registersInRange (x .registers) ≡ false
       → datagram bytes x .board ≡ x
   -- a datagram that is answered anything but 100 and 101 changes no register and no byte of either store
   pub datagram-refused : (bytes : List ℕ) (x : Board) → (datagram bytes x .status ≡ 100 → ⊥) → (datagram bytes x .status ≡ 101 → ⊥)

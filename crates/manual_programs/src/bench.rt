@@ -28,7 +28,7 @@ pub(crate) fn fresh(registers: Registers, program: &mut [u8], cells: &mut [u8]) 
 pub(crate) fn sent(line: &[u8], words_at: usize, command: Command) -> [u8; 9] {
     let mut frame = [0u8; 9];
     display::build_command(&mut frame, 1, command);
-    crate::print::command(line, words_at, frame);
+    crate::print::command(line, words_at, &frame);
     frame
 }
 
@@ -37,7 +37,7 @@ pub(crate) fn tell(
     registers: Registers,
     program: &mut [u8],
     cells: &mut [u8],
-    reply: &mut [u8],
+    reply: &mut [u8; 9],
     frame: &[u8],
 ) -> Registers {
     let answered = datagrams::datagram(registers, program, cells, reply, frame);

@@ -1,6 +1,6 @@
-// Every TMCL program that document 000 prints in its chapters 2, 3 and 6, loaded, checked and run on
-// the board with samples and ticks. The script on standard input says what is done, a line for each
-// event; each line is answered by one.
+// Every command that document 000 prints as nine bytes, sent to the board and replied to, and every TMCL
+// program that it prints in its chapters 2, 3 and 6, loaded, checked and run with samples and ticks. The
+// script on standard input says what is done, a line for each event; each line is answered by one.
 ghost use Prim.Native.Nat.{_≤_, max};
 ghost use lib.ListN.{length};
 
@@ -10,7 +10,6 @@ mod script;
 
 use board::Registers;
 use libc::STDIN_FILENO;
-use printing::text;
 use script::Line;
 use std::num::wrapping_add_u64;
 
@@ -86,7 +85,7 @@ fn main() {
     let mut script = io::large_buffer();
     let n = io::read_full(STDIN_FILENO, &mut script);
     if n == 65536 {
-        text(b"the script is too long: it may have 65535 bytes\n");
+        print::text(b"the script is too long: it may have 65535 bytes\n");
         return;
     }
     let mut program = [0u8; 7168];

@@ -4,16 +4,62 @@ use checking::Verdict;
 use datagrams::Answer;
 use display::Received;
 use flags::Flags;
-use printing::labelled;
-use printing::labelled_word;
-use printing::number;
-use printing::spelled;
-use printing::text;
+use libc::STDOUT_FILENO;
 use registers::Core;
 use registers::Motion;
 use registers::Order;
 use waits::Wait;
 use words::Word;
+
+pub(crate) fn text(t: &[u8]) {
+    io::write_all(STDOUT_FILENO, t);
+}
+
+fn number(n: u64) {
+    io::print_decimal(STDOUT_FILENO, n);
+}
+
+// A word in decimal: its bits, or a minus and what they lack to 2^32.
+fn signed(w: Word) {
+    let u = words::bits_of(w) as u64;
+    if u < 2147483648 {
+        number(u);
+    } else {
+        text(b"-");
+        number(4294967296 - u);
+    }
+}
+
+// A number behind the words that say what it is.
+fn labelled(words: &[u8], n: u64) {
+    text(words);
+    number(n);
+}
+
+// A word behind the words that say what it is.
+fn labelled_word(words: &[u8], w: Word) {
+    text(words);
+    signed(w);
+}
+
+fn wide(b: u8) -> usize {
+    b as usize
+}
+
+const DIGITS: [u8; 16] = *b"0123456789ABCDEF";
+
+// A frame as 000 prints it: two digits for each byte, single spaces between.
+fn spelled(frame: &[u8; 9]) -> [u8; 26] {
+    let mut out = [b' '; 26];
+    let mut i = 0;
+    while i < 9 {
+        let b = wide(frame[i]);
+        out[i * 3] = DIGITS[b / 16 % 16];
+        out[i * 3 + 1] = DIGITS[b % 16];
+        i += 1;
+    }
+    out
+}
 
 // A line of the script from a byte on.
 fn words_from(line: &[u8], from: usize) {
@@ -38,28 +84,30 @@ pub(crate) fn unknown(at: u64) {
     text(b"\n");
 }
 
-// The words that name a command, and its seven bytes, between its address and its checksum.
-pub(crate) fn command(line: &[u8], from: usize, frame: [u8; 9]) {
-    let bytes = spelled(frame);
+// The words that name a command, and the nine bytes sent.
+pub(crate) fn command(line: &[u8], from: usize, sent: &[u8; 9]) {
     text(b"  ");
     words_from(line, from);
     text(b": ");
-    text(&bytes[3..23]);
+    text(&spelled(sent));
 }
 
-fn received(reply: &[u8]) {
+// The nine bytes replied, and what the display reads in them.
+fn received(reply: &[u8; 9]) {
+    text(b", reply ");
+    text(&spelled(reply));
     match display::read_reply(reply) {
         Received::Read(r) => {
-            labelled(b", status ", r.status as u64);
+            labelled(b": status ", r.status as u64);
             labelled_word(b", value ", r.value);
         }
-        Received::Length => text(b", reply of another length"),
-        Received::Checksum => text(b", reply damaged"),
+        Received::Length => text(b": of another length"),
+        Received::Checksum => text(b": damaged"),
     }
 }
 
-// What a datagram was answered, with the reply as the display reads it.
-pub(crate) fn answer(answer: Answer, reply: &[u8]) {
+// What a datagram was answered.
+pub(crate) fn answer(answer: Answer, reply: &[u8; 9]) {
     match answer {
         Answer::Nothing => text(b", no reply"),
         Answer::Length => text(b", refused with 20"),

@@ -1,0 +1,10 @@
+-- `global_fields::ggp` meets its contract. Assumes nothing.
+use borrow.Author.Needs.{needs}
+use Rattle.global_fields.proofs.ggp.Statement.{statement}
+use Rattle.global_fields.proofs.ggp.Tie as tie
+
+returns : tie.Need-returns
+returns c = simp (c .by-bytes .ensures, c .before .has .ensures, c .before .before .is-bank .ensures)
+
+pub ggp-spec : {M : Type 1} → statement M
+ggp-spec = tie.close (tie.spec (λ c κs. search needs) (λ c κs. search needs) (λ c κs. search needs) returns)

@@ -1,0 +1,86 @@
+-- Power-up, sample and tick over an image of the registers, and the cells of a new board.
+use Prim.Native.Nat.{ℕ}
+use mathlib.Core.List.{List}
+use lib.IntN.{ℤ, pos}
+use lib.ListN.{getD}
+use lib.Seq.{sets}
+use Rattle.words.specs.Word.{pick, word}
+use Rattle.store.specs.Store.{isParameterStore}
+use Rattle.sheet.specs.Rows.{rows}
+use Rattle.resetting.specs.Resetting.{resetCells}
+use Rattle.pins.specs.declared.Inputs.{Inputs}
+use Rattle.pins.specs.declared.Signals.{Signals}
+use Rattle.sampling.specs.declared.Readings.{Readings}
+use Rattle.sampling.specs.declared.Sample.{Sample}
+use Rattle.board.specs.Registers.{powered}
+use Rattle.board.specs.declared.Registers.{Registers}
+use Rattle.image.specs.Image.{encoded, isImage, decoded}
+use Rattle.events.specs.Events as events
+
+-- the image left, and the number answered
+pub record Told : Type 0 where
+  pub image : List ℤ
+  pub status : ℕ
+
+abbrev pub told : ℕ → List ℤ → Told
+told n l = record { image = l; status = n }
+
+-- registers over all 137 places
+abbrev pub put : List ℤ → Registers → List ℤ
+put l r = sets l 0 (encoded r)
+
+abbrev pub putOutcome : List ℤ → events.Outcome → Told
+putOutcome l o = told (o .status) (put l (o .registers))
+
+-- "Power-up .."; it has no 23, so the image may hold anything
+unfoldable pub poweredUp : List ℕ → List ℤ → Told
+poweredUp s l = pick (isParameterStore s) (told 100 (put l (powered s))) (told 20 l)
+
+-- ---- "A sample carries ramp and actual position, reached flag, right, left and home switch, supply voltage, temperature, two
+-- digital inputs (0/1), three analog inputs (0 to 65,535), three alarms": sixteen fields in this order
+abbrev pub readingsOf : List ℤ → Readings
+readingsOf f =
+    record {
+      «ramp_position» = getD f 0 (pos 0);
+      «actual_position» = getD f 1 (pos 0);
+      reached = getD f 2 (pos 0);
+      right = getD f 3 (pos 0);
+      left = getD f 4 (pos 0);
+      home = getD f 5 (pos 0);
+      «supply_voltage» = getD f 6 (pos 0);
+      temperature = getD f 7 (pos 0);
+    }
+
+abbrev pub inputsOf : List ℤ → Inputs
+inputsOf f =
+    record {
+      «digital_0» = word (getD f 8 (pos 0));
+      «digital_1» = word (getD f 9 (pos 0));
+      «analog_0» = getD f 10 (pos 0);
+      «analog_1» = getD f 11 (pos 0);
+      «analog_2» = getD f 12 (pos 0);
+    }
+
+abbrev pub signalsOf : List ℤ → Signals
+signalsOf f =
+    record { eal = word (getD f 13 (pos 0)); edv = word (getD f 14 (pos 0)); epo = word (getD f 15 (pos 0)) }
+
+abbrev pub sampleOf : List ℤ → Sample
+sampleOf f = record { readings = readingsOf f; inputs = inputsOf f; signals = signalsOf f }
+
+unfoldable pub sampled : List ℤ → List ℤ → Told
+sampled f l = pick (isImage l) (putOutcome l (events.sampled (sampleOf f) (decoded l))) (told 23 l)
+
+unfoldable pub ticked : List ℤ → Told
+ticked l = pick (isImage l) (putOutcome l (events.ticked (decoded l))) (told 23 l)
+
+-- ---- the cells of a new board: the default in each
+pub record Cells : Type 0 where
+  pub cells : List ℕ
+  pub status : ℕ
+
+abbrev pub cellsLeft : ℕ → List ℕ → Cells
+cellsLeft n s = record { cells = s; status = n }
+
+unfoldable pub newCells : List ℕ → Cells
+newCells s = pick (isParameterStore s) (cellsLeft 100 (resetCells rows 103 s)) (cellsLeft 20 s)

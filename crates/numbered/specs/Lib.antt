@@ -1,0 +1,5 @@
+pub mod Events
+pub mod Datagram
+pub mod Run
+pub mod Check
+pub mod Host

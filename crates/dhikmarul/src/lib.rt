@@ -1,0 +1,107 @@
+// The board for C and Rust: every event, the program check and the display's side under names of C.
+//
+// `include/dhikmarul.h` says what each argument and each number is. A slice is a pointer and a length; an
+// array of known length is a pointer alone. Each function does what the one of its name in `numbered`
+// does, and takes every input.
+ghost use mathlib.Core.Path.{_≡_};
+ghost use Rattle.numbered.specs.Events as events;
+ghost use Rattle.numbered.specs.Datagram as datagrams;
+ghost use Rattle.numbered.specs.Run as runs;
+ghost use Rattle.numbered.specs.Host as host;
+ghost use Rattle.dhikmarul.specs.Answers.{Checked};
+
+// The cells of a new board.
+#[no_mangle]
+pub extern "C" fn dhikmarul_new_cells(cells: &mut [u8]) -> u8
+    ensures { λ r. ⌜ events.cellsLeft r (now (cells .exit)) ≡ events.newCells (now (cells .entry)) ⌝ }
+{
+    numbered::new_cells(cells)
+}
+
+// Power-up.
+#[no_mangle]
+pub extern "C" fn dhikmarul_power_up(registers: &mut [i32; 137], cells: &[u8]) -> u8
+    ensures { λ r. ⌜ events.told r (now (registers .exit)) ≡ events.poweredUp (now (cells .entry)) (now (registers .entry)) ⌝ }
+{
+    numbered::power_up(registers, cells)
+}
+
+// A datagram.
+#[no_mangle]
+pub extern "C" fn dhikmarul_datagram(
+    registers: &mut [i32; 137],
+    program: &mut [u8],
+    cells: &mut [u8],
+    reply: &mut [u8],
+    bytes: &[u8],
+) -> u8
+    ensures { λ r. ⌜ datagrams.left r (now (registers .exit)) (now (program .exit)) (now (cells .exit)) (now (reply .exit)) ≡ datagrams.datagram (now (bytes .entry)) (now (registers .entry)) (now (program .entry)) (now (cells .entry)) (now (reply .entry)) ⌝ }
+{
+    numbered::datagram(registers, program, cells, reply, bytes)
+}
+
+// A sample of sixteen fields.
+#[no_mangle]
+pub extern "C" fn dhikmarul_sample(registers: &mut [i32; 137], fields: &[i32; 16]) -> u8
+    ensures { λ r. ⌜ events.told r (now (registers .exit)) ≡ events.sampled (now (fields .entry)) (now (registers .entry)) ⌝ }
+{
+    numbered::sample(registers, fields)
+}
+
+// A tick.
+#[no_mangle]
+pub extern "C" fn dhikmarul_tick(registers: &mut [i32; 137]) -> u8
+    ensures { λ r. ⌜ events.told r (now (registers .exit)) ≡ events.ticked (now (registers .entry)) ⌝ }
+{
+    numbered::tick(registers)
+}
+
+// A run, and how many steps it made.
+#[no_mangle]
+pub extern "C" fn dhikmarul_run(
+    registers: &mut [i32; 137],
+    program: &[u8],
+    cells: &mut [u8],
+    budget: usize,
+    steps: &mut usize,
+) -> u8
+    ensures { λ r. ⌜ runs.left (runs.ran r (now (steps .exit))) (now (registers .exit)) (now (cells .exit)) ≡ runs.run (now (program .entry)) budget (now (registers .entry)) (now (cells .entry)) ⌝ }
+{
+    let ran = numbered::run(registers, program, cells, budget);
+    *steps = ran.steps;
+    ran.status
+}
+
+// The program check, and the bad point that it names.
+#[no_mangle]
+pub extern "C" fn dhikmarul_check(program: &[u8], address: &mut u16, depth: &mut u8) -> u8
+    ensures { λ r. ⌜ Checked (now (program .entry)) r (now (address .exit)) (now (depth .exit)) ⌝ }
+{
+    let checked = numbered::check(program);
+    *address = checked.address;
+    *depth = checked.depth;
+    checked.status
+}
+
+// A command built for the board.
+#[no_mangle]
+pub extern "C" fn dhikmarul_build_command(
+    out: &mut [u8],
+    address: u8,
+    command: u8,
+    kind: u8,
+    motor: u8,
+    value: i32,
+) -> u8
+    ensures { λ r. ⌜ host.bytesLeft r (now (out .exit)) ≡ host.built address (host.command command kind motor value) (now (out .entry)) ⌝ }
+{
+    numbered::build_command(out, address, command, kind, motor, value)
+}
+
+// A reply read.
+#[no_mangle]
+pub extern "C" fn dhikmarul_read_reply(bytes: &[u8], numbers: &mut [i32; 5]) -> u8
+    ensures { λ r. ⌜ host.numbersLeft r (now (numbers .exit)) ≡ host.read (now (bytes .entry)) (now (numbers .entry)) ⌝ }
+{
+    numbered::read_reply(bytes, numbers)
+}

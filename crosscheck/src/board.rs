@@ -1,0 +1,144 @@
+//! A whole board of the plain implementation: registers and lent stores, with
+//! what each event answers.
+
+use crate::event::{Bytes, Event};
+use crate::plain::{
+    self, check, new_cells, read_reply, Registers, Unwatched, Watch, CELLS_LENGTH, DATAGRAM_LENGTH,
+    PROGRAM_LENGTH, RECORD_LENGTH,
+};
+
+/// The byte that fills a build's buffer before the build.
+pub const UNTOUCHED: u8 = 0xaa;
+
+/// What an event answers.
+#[derive(Clone, Copy, Debug, PartialEq)]
+pub enum Answer {
+    Datagram {
+        status: u8,
+        replied: bool,
+    },
+    Status(u8),
+    Ran {
+        status: u8,
+        steps: usize,
+    },
+    Verdict {
+        status: u8,
+        address: u16,
+        depth: u8,
+    },
+    Built {
+        status: u8,
+        buffer: Bytes,
+    },
+    Read {
+        status: u8,
+        numbers: [i32; 5],
+    },
+    /// Looking and setting up answer nothing.
+    Set,
+    /// Not an event as the board stands; nothing was done.
+    NoEvent,
+}
+
+/// Registers and stores.
+#[derive(Clone)]
+pub struct Board {
+    pub registers: Registers,
+    pub program: Vec<u8>,
+    pub cells: Vec<u8>,
+    pub reply: Vec<u8>,
+}
+
+impl Default for Board {
+    fn default() -> Board {
+        Board::new()
+    }
+}
+
+impl Board {
+    /// No program, default cells, registers as power-up leaves them.
+    pub fn new() -> Board {
+        let mut cells = vec![0; CELLS_LENGTH];
+        new_cells(&mut cells);
+        let registers = Registers::powered_up(&cells).expect("the cells have their length");
+        Board {
+            registers,
+            program: vec![0; PROGRAM_LENGTH],
+            cells,
+            reply: vec![0; DATAGRAM_LENGTH],
+        }
+    }
+
+    /// Carries out an event.
+    pub fn apply(&mut self, event: &Event) -> Answer {
+        self.apply_watched(event, &mut Unwatched)
+    }
+
+    /// Carries out an event whose steps are watched.
+    pub fn apply_watched(&mut self, event: &Event, watch: &mut impl Watch) -> Answer {
+        match *event {
+            Event::Datagram(bytes) => self.datagram(bytes, watch),
+            Event::Sample(ref fields) => Answer::Status(self.registers.sample(fields)),
+            Event::Tick => Answer::Status(self.registers.tick()),
+            Event::Run(budget) => self.run(budget, watch),
+            Event::PowerUp => Answer::Status(self.registers.power_up(&self.cells)),
+            Event::Check => {
+                let plain::Verdict { status, address, depth } = check(&self.program);
+                Answer::Verdict { status, address, depth }
+            }
+            Event::Build { length, address, command } => build(length, address, command),
+            Event::Read(bytes) => {
+                let (status, numbers) = read_reply(bytes.as_slice());
+                Answer::Read { status, numbers }
+            }
+            Event::Dump => Answer::Set,
+            _ => self.set_up(event),
+        }
+    }
+
+    fn datagram(&mut self, bytes: Bytes, watch: &mut impl Watch) -> Answer {
+        let Board { registers, program, cells, reply } = self;
+        let status = registers.datagram_watched(program, cells, reply, bytes.as_slice(), watch);
+        let none = [plain::status::NONE, plain::status::LENGTH, plain::status::REGISTERS];
+        Answer::Datagram { status, replied: !none.contains(&status) }
+    }
+
+    fn run(&mut self, budget: u64, watch: &mut impl Watch) -> Answer {
+        let budget = usize::try_from(budget).unwrap_or(usize::MAX);
+        let ran = self.registers.run_watched(&self.program, &mut self.cells, budget, watch);
+        Answer::Ran { status: ran.status, steps: ran.steps }
+    }
+
+    fn set_up(&mut self, event: &Event) -> Answer {
+        match *event {
+            Event::New => *self = Board::new(),
+            Event::Record { address, record } if self.program.len() == PROGRAM_LENGTH => {
+                let at = address * RECORD_LENGTH;
+                self.program[at..at + RECORD_LENGTH].copy_from_slice(&record);
+            }
+            Event::Cell { cell, value } if self.cells.len() == CELLS_LENGTH => {
+                self.cells[cell * 4..cell * 4 + 4].copy_from_slice(&value.to_be_bytes());
+            }
+            Event::Register { place, value } if self.registers.set(place, value) => {}
+            Event::Length { which, length } => self.store(which).resize(length, 0),
+            _ => return Answer::NoEvent,
+        }
+        Answer::Set
+    }
+
+    /// The store that a script's number names.
+    fn store(&mut self, which: usize) -> &mut Vec<u8> {
+        match which {
+            0 => &mut self.program,
+            1 => &mut self.cells,
+            _ => &mut self.reply,
+        }
+    }
+}
+
+fn build(length: usize, address: u8, command: plain::Command) -> Answer {
+    let mut buffer = Bytes::filled(UNTOUCHED, length);
+    let status = plain::build_command(buffer.as_mut_slice(), address, command);
+    Answer::Built { status, buffer }
+}

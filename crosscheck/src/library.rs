@@ -1,0 +1,117 @@
+//! A whole board of the library, reached over the C boundary.
+
+use dhikmarul::{place, Registers, Sample, Status};
+
+use crate::board::{Answer, UNTOUCHED};
+use crate::event::{Bytes, Event};
+use crate::plain::{CELLS_LENGTH, DATAGRAM_LENGTH, PROGRAM_LENGTH, RECORD_LENGTH};
+
+/// The registers' image and the stores lent to the library.
+#[derive(Clone)]
+pub struct LibraryBoard {
+    pub registers: Registers,
+    pub program: Vec<u8>,
+    pub cells: Vec<u8>,
+    pub reply: Vec<u8>,
+}
+
+impl Default for LibraryBoard {
+    fn default() -> LibraryBoard {
+        LibraryBoard::new()
+    }
+}
+
+impl LibraryBoard {
+    /// No program, default cells, registers as power-up leaves them.
+    pub fn new() -> LibraryBoard {
+        let mut board = LibraryBoard {
+            // Numbers no board has, so that a place power-up forgets shows.
+            registers: Registers([-77_777; place::USER_VARIABLES + 56]),
+            program: vec![0; PROGRAM_LENGTH],
+            cells: vec![UNTOUCHED; CELLS_LENGTH],
+            reply: vec![0; DATAGRAM_LENGTH],
+        };
+        dhikmarul::new_cells(&mut board.cells);
+        board.registers.power_up(&board.cells);
+        board
+    }
+
+    /// Carries out an event.
+    pub fn apply(&mut self, event: &Event) -> Answer {
+        match *event {
+            Event::Datagram(bytes) => {
+                let LibraryBoard { registers, program, cells, reply } = self;
+                let answer = registers.datagram(program, cells, reply, bytes.as_slice());
+                Answer::Datagram { status: answer.status.0, replied: answer.replied }
+            }
+            Event::Sample(ref fields) => {
+                Answer::Status(self.registers.sample(&Sample::from_numbers(fields)).0)
+            }
+            Event::Tick => Answer::Status(self.registers.tick().0),
+            Event::Run(budget) => {
+                let budget = usize::try_from(budget).unwrap_or(usize::MAX);
+                let ran = self.registers.run(&self.program, &mut self.cells, budget);
+                Answer::Ran { status: ran.status.0, steps: ran.steps }
+            }
+            Event::PowerUp => Answer::Status(self.registers.power_up(&self.cells).0),
+            Event::Check => check(&self.program),
+            Event::Build { .. } => build(event),
+            Event::Read(bytes) => read(bytes),
+            _ => self.set_up(event),
+        }
+    }
+
+    fn set_up(&mut self, event: &Event) -> Answer {
+        match *event {
+            Event::New => *self = LibraryBoard::new(),
+            Event::Record { address, record } => {
+                let at = address * RECORD_LENGTH;
+                self.program[at..at + RECORD_LENGTH].copy_from_slice(&record);
+            }
+            Event::Cell { cell, value } => {
+                self.cells[cell * 4..cell * 4 + 4].copy_from_slice(&value.to_be_bytes());
+            }
+            // The wait's count goes in as its bits.
+            Event::Register { place, value } => self.registers.0[place] = value as i32,
+            Event::Length { which: 0, length } => self.program.resize(length, 0),
+            Event::Length { which: 1, length } => self.cells.resize(length, 0),
+            Event::Length { length, .. } => self.reply.resize(length, 0),
+            _ => {}
+        }
+        Answer::Set
+    }
+}
+
+fn check(program: &[u8]) -> Answer {
+    let dhikmarul::Verdict { status, address, depth } = dhikmarul::check(program);
+    Answer::Verdict { status: status.0, address, depth }
+}
+
+fn build(event: &Event) -> Answer {
+    let Event::Build { length, address, command } = *event else {
+        return Answer::NoEvent;
+    };
+    let mut buffer = Bytes::filled(UNTOUCHED, length);
+    let status = dhikmarul::build_command(
+        buffer.as_mut_slice(),
+        address,
+        command.number,
+        command.kind,
+        command.motor,
+        command.value,
+    );
+    Answer::Built { status: status.0, buffer }
+}
+
+fn read(bytes: Bytes) -> Answer {
+    let reply = dhikmarul::read_reply(bytes.as_slice());
+    let Status(code) = reply.command_status;
+    let numbers = [
+        reply.reply_address.into(),
+        reply.module_address.into(),
+        code.into(),
+        reply.command.into(),
+        reply.value,
+    ];
+    Answer::Read { status: reply.status.0, numbers }
+}

@@ -2,7 +2,6 @@
 //
 // Its first byte says the kind; words stand apart by single spaces; numbers are decimal, with a minus
 // where they are negative, and fit 32 bits. A line that reads as no kind is unknown, whatever it holds.
-ghost use mathlib.Core.Path.{_≡_};
 use pins::Inputs;
 use pins::Signals;
 use sampling::Readings;
@@ -27,131 +26,11 @@ pub(crate) enum Line {
     Unknown,
 }
 
-// A number, and where it ends: 0 where there is none that fits.
-struct Number {
-    value: Word,
-    next: usize,
-}
-
-// What the digits from a place on make, and where they end.
-struct Spelt {
-    value: u64,
-    next: usize,
-}
-
 // More ticks than this in one line are taken for a slip.
 const MOST_TICKS: i32 = 100000;
 
-fn wide(b: u8) -> u64
-    ensures { λ r. ⌜ r ≡ b ⌝ }
-{
-    b as u64
-}
-
-fn is_digit(b: u8) -> bool {
-    48 <= b && b <= 57
-}
-
-// A number with one digit more. One that no word holds stays as it is, and is refused for its size.
-fn grown(n: u64, b: u8) -> u64 {
-    if n <= 4294967296 && 48 <= b {
-        n * 10 + wide(b - 48)
-    } else {
-        n
-    }
-}
-
-fn digits(line: &[u8], from: usize) -> Spelt {
-    let mut value = 0u64;
-    let mut at = from;
-    while at < line.len() {
-        let b = line[at];
-        if !is_digit(b) {
-            break;
-        }
-        value = grown(value, b);
-        at += 1;
-    }
-    Spelt {
-        value: value,
-        next: at,
-    }
-}
-
-// Where a number that is asked for cannot be read.
-fn nothing() -> Number {
-    Number {
-        value: Word { v: 0 },
-        next: 0,
-    }
-}
-
-// A number that was read, where it fits a word.
-fn fitting(minus: bool, value: u64, next: usize) -> Number {
-    if minus {
-        if value <= 2147483648 {
-            let bits = (4294967296 - value) % 4294967296;
-            return Number {
-                value: words::of_bits(bits as u32),
-                next: next,
-            };
-        }
-    } else if value < 2147483648 {
-        return Number {
-            value: words::of_bits(value as u32),
-            next: next,
-        };
-    }
-    nothing()
-}
-
-fn number_at(line: &[u8], from: usize) -> Number {
-    if line.len() <= from {
-        return nothing();
-    }
-    let minus = line[from] == b'-';
-    let start = if minus { from + 1 } else { from };
-    let read = digits(line, start);
-    let next = read.next;
-    if next == start {
-        return nothing();
-    }
-    fitting(minus, read.value, next)
-}
-
-// Behind a space at a place: 0 where none is there.
-fn behind_space(line: &[u8], at: usize) -> usize {
-    if at < line.len() && line[at] == b' ' {
-        at + 1
-    } else {
-        0
-    }
-}
-
-// So many numbers, each behind a space, from the second byte on. Answers where they end, or 0 where
-// the line has not so many.
-fn numbers(line: &[u8], count: usize, out: &mut [i32; 16]) -> usize {
-    let mut at = 1;
-    let mut i = 0;
-    while i < 16 {
-        if i == count {
-            break;
-        }
-        let read = number_at(line, behind_space(line, at));
-        at = read.next;
-        if at == 0 {
-            break;
-        }
-        let value = read.value;
-        let v = value.v;
-        out[i] = v;
-        i += 1;
-    }
-    at
-}
-
 fn spaced(line: &[u8], kind: Line) -> Line {
-    if behind_space(line, 1) == 0 {
+    if text::behind_space(line, 1) == 0 {
         Line::Unknown
     } else {
         kind
@@ -164,8 +43,8 @@ fn is_byte(n: i32) -> bool {
 
 // A command line: four numbers, the first three of them bytes, and the words that name it.
 fn command(line: &[u8], out: &mut [i32; 16]) -> Line {
-    let end = numbers(line, 4, out);
-    let words_at = behind_space(line, end);
+    let end = text::numbers_at(line, 1, 4, out);
+    let words_at = text::behind_space(line, end);
     let bytes = is_byte(out[0]) && is_byte(out[1]) && is_byte(out[2]);
     if end == 0 || words_at == 0 || !bytes {
         return Line::Unknown;
@@ -175,7 +54,7 @@ fn command(line: &[u8], out: &mut [i32; 16]) -> Line {
 
 // A line of so many numbers and nothing behind them.
 fn alone(line: &[u8], count: usize, kind: Line, out: &mut [i32; 16]) -> Line {
-    let end = numbers(line, count, out);
+    let end = text::numbers_at(line, 1, count, out);
     if end == 0 || end != line.len() {
         return Line::Unknown;
     }

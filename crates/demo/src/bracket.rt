@@ -1,0 +1,107 @@
+// The bracket that the motor tilts: 10 ms of it at a time. The board does not move it; it only gives the
+// order that the motor follows.
+use words::Word;
+
+// Where the right limit switch is. There is no left one.
+const TOP: u64 = 320;
+
+// What is outside the board: the time since the ignition in ticks, the bracket and how low it can go, and
+// the driver's buttons.
+pub(crate) struct Outside {
+    pub(crate) time: u64,
+    pub(crate) position: u64,
+    pub(crate) lowest: u64,
+    pub(crate) up: i32,
+    pub(crate) down: i32,
+}
+
+// A word from 0 up; the bracket has no place and no way below 0.
+fn size(v: i32) -> u64 {
+    let bits = words::bits_of(Word { v: v }) as u64;
+    if bits < 2147483648 { bits } else { 0 }
+}
+
+fn word(n: u64) -> i32 {
+    let w = words::of_bits((n % 4294967296) as u32);
+    w.v
+}
+
+fn raised(position: u64, way: u64, highest: u64) -> u64 {
+    if highest <= position {
+        return position;
+    }
+    if highest - position < way {
+        return highest;
+    }
+    position + way
+}
+
+fn lowered(position: u64, way: u64, lowest: u64) -> u64 {
+    if position <= lowest {
+        return position;
+    }
+    if position - lowest < way {
+        return lowest;
+    }
+    position - way
+}
+
+// Toward a target, and not past it.
+fn toward(position: u64, target: u64, way: u64, lowest: u64) -> u64 {
+    if position <= target {
+        return raised(position, way, target);
+    }
+    if target < lowest {
+        return lowered(position, way, lowest);
+    }
+    lowered(position, way, target)
+}
+
+// The position 10 ms on under the board's order: at a velocity to the right, or to the target position
+// at the speed limit.
+pub(crate) fn moved(image: &[i32; 137], position: u64, lowest: u64) -> u64 {
+    match image[14] {
+        1 => raised(position, size(image[15]) / 100, TOP),
+        2 => toward(position, size(image[41]), size(image[38]) / 100, lowest),
+        _ => position,
+    }
+}
+
+fn is_at_target(image: &[i32; 137], position: i32) -> i32 {
+    if image[14] != 2 {
+        return 0;
+    }
+    if image[41] == position { 1 } else { 0 }
+}
+
+fn is_at_top(position: u64) -> i32 {
+    if position < TOP { 0 } else { 1 }
+}
+
+// What the board measures: positions, the reached flag, three switches, supply voltage, temperature,
+// the buttons, three analog inputs, three alarms.
+pub(crate) fn sample(image: &[i32; 137], outside: Outside) -> [i32; 16] {
+    let right = is_at_top(outside.position);
+    let at = word(outside.position);
+    let reached = is_at_target(image, at);
+    let up = outside.up;
+    let down = outside.down;
+    [
+        at,
+        at,
+        reached,
+        right,
+        0,
+        0,
+        240,
+        25,
+        up,
+        down,
+        0,
+        0,
+        0,
+        0,
+        0,
+        0,
+    ]
+}

@@ -1,6 +1,7 @@
 // The board on the bench: the display's commands to it, time passing over it, and its ignition.
 use crate::bracket;
 use crate::bracket::Outside;
+use crate::names;
 use crate::print::labelled;
 use crate::print::labelled_word;
 use crate::print::spelled;
@@ -103,13 +104,13 @@ pub(crate) fn load(
         return;
     }
     let last = count - 1;
-    send(image, program, cells, 132, 0, 0, 0);
+    send(image, program, cells, names::START_DOWNLOAD, 0, 0, 0);
     exchange(image, program, cells, store::record_at(listed, 0), true);
     let stored = store_all(image, program, cells, listed, 1, last);
     labelled(b"  .. and so on: ", stored);
     text(b" records more with status 101, put in program memory\n");
     exchange(image, program, cells, store::record_at(listed, last), true);
-    send(image, program, cells, 133, 0, 0, 0);
+    send(image, program, cells, names::END_DOWNLOAD, 0, 0, 0);
 }
 
 // Whether a line is due: something changed, the ignition was just turned on, or the bracket is on its
@@ -169,7 +170,7 @@ pub(crate) fn pass(
 // Ignition off and on: the working values go, the cells stay.
 pub(crate) fn ignite(image: &mut [i32; 137], cells: &[u8; 364]) {
     numbered::power_up(image, cells);
-    if image[8] == 1 {
+    if image[names::AT_RUNNING] == 1 {
         text(b"Ignition on: global 77 is 1, so the program runs by itself.\n");
     } else {
         text(b"Ignition on: global 77 is 0, so the program does not run.\n");

@@ -1,5 +1,6 @@
 // The bracket that the motor tilts: 10 ms of it at a time. The board does not move it; it only gives the
 // order that the motor follows.
+use crate::names;
 use words::Word;
 
 // Where the right limit switch is. There is no left one.
@@ -60,18 +61,27 @@ fn toward(position: u64, target: u64, way: u64, lowest: u64) -> u64 {
 // The position 10 ms on under the board's order: at a velocity to the right, or to the target position
 // at the speed limit.
 pub(crate) fn moved(image: &[i32; 137], position: u64, lowest: u64) -> u64 {
-    match image[14] {
-        1 => raised(position, size(image[15]) / 100, TOP),
-        2 => toward(position, size(image[41]), size(image[38]) / 100, lowest),
+    match image[names::AT_ORDER] {
+        names::VELOCITY => raised(position, size(image[names::AT_VELOCITY]) / 100, TOP),
+        names::POSITION => toward(
+            position,
+            size(image[names::AT_TARGET_POSITION]),
+            size(image[names::AT_SPEED_LIMIT]) / 100,
+            lowest,
+        ),
         _ => position,
     }
 }
 
 fn is_at_target(image: &[i32; 137], position: i32) -> i32 {
-    if image[14] != 2 {
+    if image[names::AT_ORDER] != names::POSITION {
         return 0;
     }
-    if image[41] == position { 1 } else { 0 }
+    if image[names::AT_TARGET_POSITION] == position {
+        1
+    } else {
+        0
+    }
 }
 
 fn is_at_top(position: u64) -> i32 {

@@ -3,6 +3,7 @@
 mod bench;
 mod bracket;
 mod mnemonic;
+mod names;
 mod print;
 mod tilt;
 mod trace;
@@ -18,12 +19,12 @@ fn show_check(listed: &mut [u8; 7168]) {
     text(b"1. A tilt program, address by address\n");
     tilt::list_all(listed);
     text(b"\n2. The program check, before anything is loaded\n");
-    store::put_record(listed, 9, command(22, 0, 0, 11));
+    store::put_record(listed, 9, command(names::JA, 0, 0, 11));
     tilt::check(b"  with JA 11 for CSUB 11 at address 9, checked: ", listed);
     text(
         b"  JA leaves no return address, so RSUB at 17 would be a return with no call: status 6.\n",
     );
-    store::put_record(listed, 9, command(23, 0, 0, 11));
+    store::put_record(listed, 9, command(names::CSUB, 0, 0, 11));
     tilt::check(b"  with CSUB 11, checked: ", listed);
 }
 
@@ -37,7 +38,7 @@ fn show_loading(
     numbered::new_cells(cells);
     bench::ignite(image, cells);
     bench::load(image, program, cells, listed, tilt::RECORDS);
-    bench::send(image, program, cells, 134, 1, 0, 9);
+    bench::send(image, program, cells, names::READ_PROGRAM, 1, 0, 9);
     text(b"  1507328 is 23 x 65536: the record at 9 is CSUB.\n");
     tilt::check(b"  the board's own program store, checked: ", program);
 }
@@ -46,9 +47,17 @@ fn show_settings(image: &mut [i32; 137], program: &mut [u8; 7168], cells: &mut [
     text(
         b"\n4. Settings that are to last: the speed limit 43 by SAP and STAP, autostart 77 by SGP\n",
     );
-    bench::send(image, program, cells, 5, 43, 0, 1500);
-    bench::send(image, program, cells, 7, 43, 0, 0);
-    bench::send(image, program, cells, 9, 77, 0, 1);
+    bench::send(
+        image,
+        program,
+        cells,
+        names::SAP,
+        names::SPEED_LIMIT,
+        0,
+        1500,
+    );
+    bench::send(image, program, cells, names::STAP, names::SPEED_LIMIT, 0, 0);
+    bench::send(image, program, cells, names::SGP, names::AUTO_START, 0, 1);
 }
 
 // Up to the limit switch.
@@ -59,7 +68,9 @@ fn show_up(
     outside: Outside,
 ) -> Outside {
     let mut now = bench::pass(image, program, cells, outside, 4);
-    text(b"The driver presses tilt up. ROR 800 is 8 a tick; the limit switch is at 320.\n");
+    text(
+        b"The driver presses tilt up. ROR 800 moves it by 8 a tick; the limit switch is at 320.\n",
+    );
     now.up = 1;
     now = bench::pass(image, program, cells, now, 45);
     text(
@@ -77,7 +88,7 @@ fn show_down(
     outside: Outside,
 ) -> Outside {
     text(
-        b"The driver presses tilt down. MVP goes at the speed limit, 15 a tick; a stone lies at 200.\n",
+        b"The driver presses tilt down. MVP moves it by 15 a tick, the speed limit; a stone lies at 200.\n",
     );
     let mut now = outside;
     now.lowest = 200;
@@ -139,26 +150,58 @@ fn show_refusal(image: &mut [i32; 137], program: &mut [u8; 7168], cells: &mut [u
     );
     let old_image = *image;
     let old_cells = *cells;
-    bench::send(image, program, cells, 5, 43, 0, 200001);
-    bench::send(image, program, cells, 22, 0, 0, 9);
+    bench::send(
+        image,
+        program,
+        cells,
+        names::SAP,
+        names::SPEED_LIMIT,
+        0,
+        200001,
+    );
+    bench::send(image, program, cells, names::JA, 0, 0, 9);
     print::labelled(
         b"  registers and stored bytes that changed: ",
         changes(image, cells, &old_image, &old_cells),
     );
     text(b"\n");
-    bench::send(image, program, cells, 6, 43, 0, 0);
+    bench::send(image, program, cells, names::GAP, names::SPEED_LIMIT, 0, 0);
 }
 
 // One setting with STAP and one without.
 fn set_both(image: &mut [i32; 137], program: &mut [u8; 7168], cells: &mut [u8; 364]) {
-    bench::send(image, program, cells, 5, 43, 0, 1200);
-    bench::send(image, program, cells, 7, 43, 0, 0);
-    bench::send(image, program, cells, 5, 11, 0, 3000);
+    bench::send(
+        image,
+        program,
+        cells,
+        names::SAP,
+        names::SPEED_LIMIT,
+        0,
+        1200,
+    );
+    bench::send(image, program, cells, names::STAP, names::SPEED_LIMIT, 0, 0);
+    bench::send(
+        image,
+        program,
+        cells,
+        names::SAP,
+        names::MAXIMUM_CURRENT,
+        0,
+        3000,
+    );
 }
 
 fn read_both(image: &mut [i32; 137], program: &mut [u8; 7168], cells: &mut [u8; 364]) {
-    bench::send(image, program, cells, 6, 43, 0, 0);
-    bench::send(image, program, cells, 6, 11, 0, 0);
+    bench::send(image, program, cells, names::GAP, names::SPEED_LIMIT, 0, 0);
+    bench::send(
+        image,
+        program,
+        cells,
+        names::GAP,
+        names::MAXIMUM_CURRENT,
+        0,
+        0,
+    );
 }
 
 fn show_store(image: &mut [i32; 137], program: &mut [u8; 7168], cells: &mut [u8; 364]) {

@@ -1,4 +1,5 @@
 // Commands as mnemonics, as document 000 writes them.
+use crate::names;
 use crate::print::labelled;
 use crate::print::labelled_word;
 use crate::print::number;
@@ -23,19 +24,19 @@ fn with_value(name: &[u8], command: Command) {
 
 fn condition(kind: u8) {
     match kind {
-        0 => text(b"ZE"),
-        1 => text(b"NZ"),
-        2 => text(b"EQ"),
-        8 => text(b"ETO"),
+        names::ZE => text(b"ZE"),
+        names::NZ => text(b"NZ"),
+        names::EQ => text(b"EQ"),
+        names::ETO => text(b"ETO"),
         _ => number(kind as u64),
     }
 }
 
 fn waited_for(kind: u8) {
     match kind {
-        0 => text(b"TICKS"),
-        1 => text(b"POS"),
-        3 => text(b"LIMSW"),
+        names::TICKS => text(b"TICKS"),
+        names::POS => text(b"POS"),
+        names::LIMSW => text(b"LIMSW"),
         _ => number(kind as u64),
     }
 }
@@ -44,15 +45,15 @@ fn waited_for(kind: u8) {
 fn flow(command: Command) {
     let number = command.number;
     match number {
-        21 => {
+        names::JC => {
             text(b"JC ");
             condition(command.kind);
             with_value(b", ", command);
         }
-        22 => with_value(b"JA ", command),
-        23 => with_value(b"CSUB ", command),
-        24 => text(b"RSUB"),
-        27 => {
+        names::JA => with_value(b"JA ", command),
+        names::CSUB => with_value(b"CSUB ", command),
+        names::RSUB => text(b"RSUB"),
+        names::WAIT => {
             text(b"WAIT ");
             waited_for(command.kind);
             with_value(b", 0, ", command);
@@ -65,9 +66,9 @@ fn flow(command: Command) {
 fn control(command: Command) {
     let number = command.number;
     match number {
-        132 => with_value(b"start download at ", command),
-        133 => text(b"end download"),
-        134 => with_value(b"read the command of record ", command),
+        names::START_DOWNLOAD => with_value(b"start download at ", command),
+        names::END_DOWNLOAD => text(b"end download"),
+        names::READ_PROGRAM => with_value(b"read the command of record ", command),
         _ => flow(command),
     }
 }
@@ -75,17 +76,17 @@ fn control(command: Command) {
 pub(crate) fn write(command: Command) {
     let number = command.number;
     match number {
-        1 => with_value(b"ROR 0, ", command),
-        3 => text(b"MST 0"),
-        4 => with_value(b"MVP ABS, 0, ", command),
-        5 => with_all(b"SAP ", command),
-        6 => with_type(b"GAP ", command),
-        7 => with_type(b"STAP ", command),
-        9 => with_all(b"SGP ", command),
-        14 => with_all(b"SIO ", command),
-        15 => with_type(b"GIO ", command),
-        20 => with_value(b"COMP ", command),
-        36 => text(b"CLE ETO"),
+        names::ROR => with_value(b"ROR 0, ", command),
+        names::MST => text(b"MST 0"),
+        names::MVP => with_value(b"MVP ABS, 0, ", command),
+        names::SAP => with_all(b"SAP ", command),
+        names::GAP => with_type(b"GAP ", command),
+        names::STAP => with_type(b"STAP ", command),
+        names::SGP => with_all(b"SGP ", command),
+        names::SIO => with_all(b"SIO ", command),
+        names::GIO => with_type(b"GIO ", command),
+        names::COMP => with_value(b"COMP ", command),
+        names::CLE => text(b"CLE ETO"),
         _ => control(command),
     }
 }

@@ -1,4 +1,5 @@
 // The tilt program: its records put into a program store and listed, with what each is there for.
+use crate::names;
 use crate::print::labelled;
 use crate::print::text;
 use wire::Command;
@@ -44,88 +45,144 @@ fn list_buttons(store: &mut [u8; 7168]) {
     list(
         store,
         0,
-        5,
-        44,
+        names::SAP,
+        names::ACCELERATION,
         0,
         1500,
         b"acceleration, for this ignition only",
     );
-    list(store, 1, 27, 0, 0, 1, b"10 ms");
+    list(store, 1, names::WAIT, names::TICKS, 0, 1, b"10 ms");
     list(
         store,
         2,
-        15,
+        names::GIO,
         0,
         0,
         0,
         b"the button tilt up, digital input 0",
     );
-    list(store, 3, 20, 0, 0, 1, b"1 is pressed");
-    list(store, 4, 21, 2, 0, 9, b"pressed");
+    list(store, 3, names::COMP, 0, 0, 1, b"1 is pressed");
+    list(store, 4, names::JC, names::EQ, 0, 9, b"pressed");
     list(
         store,
         5,
-        15,
+        names::GIO,
         1,
         0,
         0,
         b"the button tilt down, digital input 1",
     );
-    list(store, 6, 21, 0, 0, 1, b"neither is pressed: look again");
+    list(
+        store,
+        6,
+        names::JC,
+        names::ZE,
+        0,
+        1,
+        b"neither is pressed: look again",
+    );
 }
 
 // The calls, behind which the buttons are looked at again.
 fn list_calls(store: &mut [u8; 7168]) {
-    list(store, 7, 23, 0, 0, 18, b"call tilt down");
-    list(store, 8, 22, 0, 0, 1, b"look again");
-    list(store, 9, 23, 0, 0, 11, b"call tilt up");
-    list(store, 10, 22, 0, 0, 1, b"look again");
+    list(store, 7, names::CSUB, 0, 0, 18, b"call tilt down");
+    list(store, 8, names::JA, 0, 0, 1, b"look again");
+    list(store, 9, names::CSUB, 0, 0, 11, b"call tilt up");
+    list(store, 10, names::JA, 0, 0, 1, b"look again");
 }
 
 // To the right limit switch.
 fn list_up(store: &mut [u8; 7168]) {
-    list(store, 11, 6, 211, 0, 0, b"tilt up: the right limit switch");
-    list(store, 12, 21, 1, 0, 16, b"there already: do not move");
-    list(store, 13, 1, 0, 0, 800, b"turn right");
+    list(
+        store,
+        11,
+        names::GAP,
+        names::RIGHT_SWITCH,
+        0,
+        0,
+        b"tilt up: the right limit switch",
+    );
+    list(
+        store,
+        12,
+        names::JC,
+        names::NZ,
+        0,
+        16,
+        b"there already: do not move",
+    );
+    list(store, 13, names::ROR, 0, 0, 800, b"turn right");
     list(
         store,
         14,
-        27,
-        3,
+        names::WAIT,
+        names::LIMSW,
         0,
         100,
         b"until a limit switch is on, 100 ticks at most",
     );
-    list(store, 15, 3, 0, 0, 0, b"stop");
-    list(store, 16, 14, 0, 2, 1, b"output 0 on: the bracket is up");
-    list(store, 17, 24, 0, 0, 0, b"return");
+    list(store, 15, names::MST, 0, 0, 0, b"stop");
+    list(
+        store,
+        16,
+        names::SIO,
+        0,
+        names::OUTPUTS,
+        1,
+        b"output 0 on: the bracket is up",
+    );
+    list(store, 17, names::RSUB, 0, 0, 0, b"return");
 }
 
 // To position 0.
 fn list_down(store: &mut [u8; 7168]) {
-    list(store, 18, 14, 0, 2, 0, b"tilt down: output 0 off");
-    list(store, 19, 4, 0, 0, 0, b"go to position 0");
+    list(
+        store,
+        18,
+        names::SIO,
+        0,
+        names::OUTPUTS,
+        0,
+        b"tilt down: output 0 off",
+    );
+    list(store, 19, names::MVP, 0, 0, 0, b"go to position 0");
     list(
         store,
         20,
-        27,
-        1,
+        names::WAIT,
+        names::POS,
         0,
         30,
         b"until it is reached, 30 ticks at most",
     );
-    list(store, 21, 21, 8, 0, 23, b"not reached in time");
-    list(store, 22, 24, 0, 0, 0, b"return");
+    list(
+        store,
+        21,
+        names::JC,
+        names::ETO,
+        0,
+        23,
+        b"not reached in time",
+    );
+    list(store, 22, names::RSUB, 0, 0, 0, b"return");
 }
 
 // Where the bracket is stuck on its way down.
 fn list_stuck(store: &mut [u8; 7168]) {
-    list(store, 23, 3, 0, 0, 0, b"stuck: stop");
-    list(store, 24, 14, 1, 2, 1, b"output 1 on: the bracket is stuck");
-    list(store, 25, 27, 0, 0, 20, b"200 ms");
-    list(store, 26, 14, 1, 2, 0, b"output 1 off");
-    list(store, 27, 36, 1, 0, 0, b"the timeout is dealt with");
-    list(store, 28, 24, 0, 0, 0, b"return");
+    list(store, 23, names::MST, 0, 0, 0, b"stuck: stop");
+    list(
+        store,
+        24,
+        names::SIO,
+        1,
+        names::OUTPUTS,
+        1,
+        b"output 1 on: the bracket is stuck",
+    );
+    list(store, 25, names::WAIT, names::TICKS, 0, 20, b"200 ms");
+    list(store, 26, names::SIO, 1, names::OUTPUTS, 0, b"output 1 off");
+    list(store, 27, names::CLE, 1, 0, 0, b"the timeout is dealt with");
+    list(store, 28, names::RSUB, 0, 0, 0, b"return");
 }
 
 pub(crate) fn list_all(store: &mut [u8; 7168]) {

@@ -1,4 +1,5 @@
 // What changed on the board in 10 ms, and how it then stands, in one line.
+use crate::names;
 use crate::print::labelled;
 use crate::print::labelled_word;
 use crate::print::signed;
@@ -19,14 +20,14 @@ pub(crate) struct Seen {
 
 pub(crate) fn look(image: &[i32; 137]) -> Seen {
     Seen {
-        up: image[20],
-        down: image[21],
-        right: image[71],
-        reached: image[46],
-        order: image[14],
-        output_0: image[16],
-        output_1: image[17],
-        eto: image[3],
+        up: image[names::AT_DIGITAL],
+        down: image[names::AT_DIGITAL + 1],
+        right: image[names::AT_RIGHT_SWITCH],
+        reached: image[names::AT_REACHED],
+        order: image[names::AT_ORDER],
+        output_0: image[names::AT_OUTPUTS],
+        output_1: image[names::AT_OUTPUTS + 1],
+        eto: image[names::AT_ETO],
     }
 }
 
@@ -76,8 +77,8 @@ fn ordered(was: i32, is: i32) {
         return;
     }
     match is {
-        1 => text(b"the motor turns; "),
-        2 => text(b"the motor goes to a position; "),
+        names::VELOCITY => text(b"the motor turns; "),
+        names::POSITION => text(b"the motor goes to a position; "),
         _ => text(b"the motor stops; "),
     }
 }
@@ -109,38 +110,38 @@ fn happened(a: Seen, b: Seen) {
 }
 
 fn order(image: &[i32; 137]) {
-    match image[14] {
-        1 => labelled_word(b", order velocity ", image[15]),
-        2 => labelled_word(b", order position ", image[41]),
+    match image[names::AT_ORDER] {
+        names::VELOCITY => labelled_word(b", order velocity ", image[names::AT_VELOCITY]),
+        names::POSITION => labelled_word(b", order position ", image[names::AT_TARGET_POSITION]),
         _ => text(b", order stopped"),
     }
 }
 
 fn outputs(image: &[i32; 137]) {
-    labelled_word(b", outputs ", image[16]);
-    signed(image[17]);
-    signed(image[18]);
-    signed(image[19]);
+    labelled_word(b", outputs ", image[names::AT_OUTPUTS]);
+    signed(image[names::AT_OUTPUTS + 1]);
+    signed(image[names::AT_OUTPUTS + 2]);
+    signed(image[names::AT_OUTPUTS + 3]);
 }
 
 // Where the program stands, and what of a wait is left.
 fn place(image: &[i32; 137], program: &[u8; 7168]) {
-    let address = image[7];
+    let address = image[names::AT_ADDRESS];
     labelled_word(b"; at ", address);
     text(b" ");
     let at = words::bits_of(Word { v: address }) as usize;
     crate::mnemonic::write(store::record_at(program, at));
-    if image[9] != 0 {
-        labelled_word(b", ticks left ", image[10]);
+    if image[names::AT_WAIT_ARMED] != 0 {
+        labelled_word(b", ticks left ", image[names::AT_WAIT_COUNT]);
     }
-    labelled_word(b", depth ", image[25]);
+    labelled_word(b", depth ", image[names::AT_DEPTH]);
 }
 
 pub(crate) fn line(time: u64, before: Seen, image: &[i32; 137], program: &[u8; 7168]) {
     labelled(b"  tick ", time);
     text(b": ");
     happened(before, look(image));
-    labelled_word(b"position ", image[43]);
+    labelled_word(b"position ", image[names::AT_ACTUAL_POSITION]);
     order(image);
     outputs(image);
     place(image, program);

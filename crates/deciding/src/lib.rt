@@ -1,17 +1,14 @@
 // What a command that changes something does, in direct mode or in a step, decided by the command, the
-// scalars and the working values, once the judge has let it through; and done.
+// scalars and the working values, once the judge has let it through.
 ghost use mathlib.Core.Path.{_≡_};
-ghost use Rattle.effects.specs.Effects.{work};
-ghost use Rattle.deciding.specs.Deciding.{decidedBy, worked};
+ghost use Rattle.deciding.specs.Deciding.{decidedBy};
 use effects::Effect;
-use effects::Worked;
 use flags::Flags;
-use registers::Core;
 use wire::Command;
 use words::Word;
 
 // The effect of a command.
-fn decide(c: Command, accumulator: Word, x: Word, flags: Flags, values: &[i32; 103]) -> Effect
+pub fn decide(c: Command, accumulator: Word, x: Word, flags: Flags, values: &[i32; 103]) -> Effect
     ensures { λ r. ⌜ r ≡ decidedBy c accumulator x flags (now (values .entry)) ⌝ }
 {
     let number = c.number;
@@ -37,21 +34,4 @@ fn decide(c: Command, accumulator: Word, x: Word, flags: Flags, values: &[i32; 1
         35 => assigning::take(settings::bank_place(bank, kind), accumulator, values),
         _ => numbers::clear(kind, flags),
     }
-}
-
-// Decides, and carries out.
-pub fn work(
-    c: Command,
-    core: Core,
-    values: &mut [i32; 103],
-    outputs: &mut [u8; 4],
-    store: &mut [u8],
-) -> Worked
-    ensures { λ r. ⌜ work r (now (values .exit)) (now (outputs .exit)) (now (store .exit)) ≡ worked c core (now (values .entry)) (now (outputs .entry)) (now (store .entry)) ⌝ }
-{
-    let accumulator = core.accumulator;
-    let x = core.x;
-    let flags = core.flags;
-    let effect = decide(c, accumulator, x, flags, values);
-    effects::apply(core, values, outputs, store, effect)
 }

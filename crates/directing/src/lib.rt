@@ -45,9 +45,13 @@ fn change(
 ) -> Directed
     ensures { λ r. ⌜ spec.direct r (now (values .exit)) (now (outputs .exit)) (now (store .exit)) ≡ spec.changed c core (now (values .entry)) (now (outputs .entry)) (now (store .entry)) ⌝ }
 {
-    let worked = deciding::work(c, core, values, outputs, store);
-    let after = worked.core;
-    let status = worked.status;
+    let accumulator = core.accumulator;
+    let x = core.x;
+    let flags = core.flags;
+    let effect = deciding::decide(c, accumulator, x, flags, values);
+    effects::write(values, outputs, store, effect);
+    let after = effects::change(core, effect);
+    let status = effects::status_of(effect);
     if status.is_done() {
         Directed {
             core: after,

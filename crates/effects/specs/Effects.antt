@@ -15,7 +15,6 @@ use Rattle.registers.specs.declared.Core.{Core}
 use Rattle.registers.specs.declared.Order.the-variants.{Position}
 use Rattle.status.specs.declared.Status.{Status}
 use Rattle.status.specs.declared.Status.the-variants.{Done}
-use Rattle.effects.specs.declared.Worked.{Worked}
 use Rattle.effects.specs.declared.Effect.{Effect}
 use Rattle.effects.specs.declared.Effect.the-variants.{Refused, Turn, Move, Set, Global, Store, Restore, Output, Numbers, Last, Clear}
 
@@ -29,9 +28,6 @@ pub record Work : Type 0 where
 
 abbrev pub left : Status → Core → List ℤ → List ℕ → List ℕ → Work
 left s c v o m = record { core = c; values = v; outputs = o; store = m; status = s }
-
-abbrev pub work : Worked → List ℤ → List ℕ → List ℕ → Work
-work r v o m = left (r .status) (r .core) v o m
 
 -- one of the four outputs
 unfoldable pub setOutput : List ℕ → ℕ → ℕ → List ℕ

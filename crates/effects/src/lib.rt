@@ -1,7 +1,7 @@
 // What a command does to the registers and to the cells: decided first, then carried out here. A
 // refusal is one of these effects, and changes nothing.
 ghost use mathlib.Core.Path.{_≡_};
-ghost use Rattle.effects.specs.Effects.{setOutput, work, arrays, written, changed, statusOf, applied};
+ghost use Rattle.effects.specs.Effects.{setOutput, arrays, written, changed, statusOf};
 use flags::Flags;
 use order::Compared;
 use registers::Core;
@@ -31,12 +31,6 @@ pub enum Effect {
     Clear(Flags),
 }
 
-// The scalars that a command leaves, and its status.
-pub struct Worked {
-    pub core: Core,
-    pub status: Status,
-}
-
 fn put_output(outputs: &mut [u8; 4], port: u8, bit: u8)
     ensures { λ _. ⌜ now (outputs .exit) ≡ setOutput (now (outputs .entry)) port bit ⌝ }
 {
@@ -47,7 +41,7 @@ fn put_output(outputs: &mut [u8; 4], port: u8, bit: u8)
 }
 
 // What an effect does to the working values, the outputs and the cells.
-fn write(values: &mut [i32; 103], outputs: &mut [u8; 4], store: &mut [u8], effect: Effect)
+pub fn write(values: &mut [i32; 103], outputs: &mut [u8; 4], store: &mut [u8], effect: Effect)
     ensures { λ _. ⌜ arrays (now (values .exit)) (now (outputs .exit)) (now (store .exit)) ≡ written effect (now (values .entry)) (now (outputs .entry)) (now (store .entry)) ⌝ }
 {
     match effect {
@@ -76,8 +70,9 @@ fn write(values: &mut [i32; 103], outputs: &mut [u8; 4], store: &mut [u8], effec
     }
 }
 
-// What it does to the scalars.
-fn change(core: Core, effect: Effect) -> Core
+// What it does to the scalars. Arrays and scalars are changed apart, so that the compiler keeps the
+// scalars of a run in machine registers.
+pub fn change(core: Core, effect: Effect) -> Core
     ensures { λ r. ⌜ r ≡ changed effect core ⌝ }
 {
     match effect {
@@ -99,7 +94,7 @@ fn change(core: Core, effect: Effect) -> Core
 }
 
 // Its status: done, unless it is a refusal.
-fn status_of(effect: Effect) -> Status
+pub fn status_of(effect: Effect) -> Status
     ensures { λ r. ⌜ r ≡ statusOf effect ⌝ }
 {
     match effect {
@@ -114,23 +109,5 @@ fn status_of(effect: Effect) -> Status
         Effect::Numbers(_accumulator, _x) => Status::Done,
         Effect::Last(_last) => Status::Done,
         Effect::Clear(_flags) => Status::Done,
-    }
-}
-
-// Carries an effect out. The scalars are changed apart from the arrays, so that the compiler keeps them
-// in machine registers.
-pub fn apply(
-    core: Core,
-    values: &mut [i32; 103],
-    outputs: &mut [u8; 4],
-    store: &mut [u8],
-    effect: Effect,
-) -> Worked
-    ensures { λ r. ⌜ work r (now (values .exit)) (now (outputs .exit)) (now (store .exit)) ≡ applied effect core (now (values .entry)) (now (outputs .entry)) (now (store .entry)) ⌝ }
-{
-    write(values, outputs, store, effect);
-    Worked {
-        core: change(core, effect),
-        status: status_of(effect),
     }
 }

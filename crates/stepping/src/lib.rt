@@ -59,12 +59,15 @@ fn carry(
     if judge::is_reading(c.number) {
         return load(c, core, values, outputs, digital, analog);
     }
-    let worked = deciding::work(c, core, values, outputs, store);
-    let after = worked.core;
-    let status = worked.status;
+    let accumulator = core.accumulator;
+    let x = core.x;
+    let flags = core.flags;
+    let effect = deciding::decide(c, accumulator, x, flags, values);
+    effects::write(values, outputs, store, effect);
+    let after = effects::change(core, effect);
     Stepped {
         core: after.next(),
-        status: status,
+        status: effects::status_of(effect),
     }
 }
 

@@ -1,5 +1,7 @@
--- `stepping::carry` meets its contract. Assumes nothing.
-use Rattle.stepping.specs.Step.{carried}
+use mathlib.Core.Path.{ap}
+use Rattle.effects.specs.Effects.{Work}
+use Rattle.deciding.proofs.Steps.{as-worked}
+use Rattle.stepping.specs.Step.{state, afterWork, carried}
 use borrow.Author.Needs.{needs}
 use Rattle.stepping.proofs.carry.Statement.{statement}
 use Rattle.stepping.proofs.carry.Tie as tie
@@ -23,19 +25,20 @@ returns-2 c =
 returns-3 : tie.Need-returns-3
 unfolding carried
 returns-3 c =
-    let b4 = c .before .before .before .before in
-    let b8 = b4 .before .before .before .before in
-    let b9 = b8 .before in
-    let b10 = b9 .before in
-    let b11 = b10 .before in
+    let w = c .before .before .before .before .before in
+    let d = w .before .before .before .before in
+    let t = d .before .before .before .before .before in
+    let u = t .before .before in
+    let a = u .before .before .before .args in
+    let x = state (a .core) (a .entries .now) (a .values .now) (a .outputs .now) (a .store .now) in
     simp (
-      c .next .ensures,
-      ← b4 .work .ensures,
-      b8 .if2 .left,
-      ← b9 .is-reading .ensures,
-      b10 .if1 .left,
-      ← b11 .is-flow .ensures,
+      c .before .next .ensures,
+      t .if2 .left,
+      ← t .before .is-reading .ensures,
+      u .if1 .left,
+      ← u .before .is-flow .ensures,
     )
+    (ap (λ (k : Work). afterWork k x) (as-worked (a .c) (a .core) (a .values .now) (a .outputs .now) (a .store .now) (d .decide .ensures) (w .write .ensures) (c .before .before .change .ensures) (c .status-of .ensures)))
 
 pub carry-spec : {M : Type 1} → statement M
 carry-spec =
@@ -47,6 +50,9 @@ carry-spec =
     (λ c κs. search needs)
     (λ c κs. search needs)
     returns-2
+    (λ c κs. search needs)
+    (λ c κs. search needs)
+    (λ c κs. search needs)
     (λ c κs. search needs)
     (λ c κs. search needs)
     (λ c. search needs)

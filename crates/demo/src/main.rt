@@ -22,7 +22,7 @@ fn show_check(listed: &mut [u8; 7168]) {
     store::put_record(listed, 9, command(names::JA, 0, 0, 11));
     tilt::check(b"  with JA 11 for CSUB 11 at address 9, checked: ", listed);
     text(
-        b"  JA leaves no return address, so RSUB at 17 would be a return with no call: status 6.\n",
+        b"  JA leaves no return address, so RSUB at 18 would be a return with no call: status 6.\n",
     );
     store::put_record(listed, 9, command(names::CSUB, 0, 0, 11));
     tilt::check(b"  with CSUB 11, checked: ", listed);
@@ -121,7 +121,7 @@ fn show_driving(image: &mut [i32; 137], program: &[u8; 7168], cells: &mut [u8; 3
     show_down(image, program, cells, after);
 }
 
-// How many of the registers and of the stored bytes are not as they were.
+// How many of the registers and of the bytes of the cells are not as they were.
 fn changes(
     image: &[i32; 137],
     cells: &[u8; 364],
@@ -161,7 +161,7 @@ fn show_refusal(image: &mut [i32; 137], program: &mut [u8; 7168], cells: &mut [u
     );
     bench::send(image, program, cells, names::JA, 0, 0, 9);
     print::labelled(
-        b"  registers and stored bytes that changed: ",
+        b"  registers and bytes of cells that changed: ",
         changes(image, cells, &old_image, &old_cells),
     );
     text(b"\n");

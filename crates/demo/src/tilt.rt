@@ -5,7 +5,7 @@ use crate::print::text;
 use wire::Command;
 use words::Word;
 
-pub(crate) const RECORDS: usize = 29;
+pub(crate) const RECORDS: usize = 30;
 
 // A command of so many numbers.
 pub(crate) fn command(number: u8, kind: u8, motor: u8, value: i32) -> Command {
@@ -85,7 +85,7 @@ fn list_buttons(store: &mut [u8; 7168]) {
 
 // The calls, behind which the buttons are looked at again.
 fn list_calls(store: &mut [u8; 7168]) {
-    list(store, 7, names::CSUB, 0, 0, 18, b"call tilt down");
+    list(store, 7, names::CSUB, 0, 0, 19, b"call tilt down");
     list(store, 8, names::JA, 0, 0, 1, b"look again");
     list(store, 9, names::CSUB, 0, 0, 11, b"call tilt up");
     list(store, 10, names::JA, 0, 0, 1, b"look again");
@@ -108,7 +108,7 @@ fn list_up(store: &mut [u8; 7168]) {
         names::JC,
         names::NZ,
         0,
-        16,
+        17,
         b"there already: do not move",
     );
     list(store, 13, names::ROR, 0, 0, 800, b"turn right");
@@ -121,34 +121,43 @@ fn list_up(store: &mut [u8; 7168]) {
         100,
         b"until a limit switch is on, 100 ticks at most",
     );
-    list(store, 15, names::MST, 0, 0, 0, b"stop");
     list(
         store,
-        16,
+        15,
+        names::JC,
+        names::ETO,
+        0,
+        24,
+        b"none in time: stuck",
+    );
+    list(store, 16, names::MST, 0, 0, 0, b"stop");
+    list(
+        store,
+        17,
         names::SIO,
         0,
         names::OUTPUTS,
         1,
         b"output 0 on: the bracket is up",
     );
-    list(store, 17, names::RSUB, 0, 0, 0, b"return");
+    list(store, 18, names::RSUB, 0, 0, 0, b"return");
 }
 
 // To position 0.
 fn list_down(store: &mut [u8; 7168]) {
     list(
         store,
-        18,
+        19,
         names::SIO,
         0,
         names::OUTPUTS,
         0,
         b"tilt down: output 0 off",
     );
-    list(store, 19, names::MVP, 0, 0, 0, b"go to position 0");
+    list(store, 20, names::MVP, 0, 0, 0, b"go to position 0");
     list(
         store,
-        20,
+        21,
         names::WAIT,
         names::POS,
         0,
@@ -157,32 +166,32 @@ fn list_down(store: &mut [u8; 7168]) {
     );
     list(
         store,
-        21,
+        22,
         names::JC,
         names::ETO,
         0,
-        23,
+        24,
         b"not reached in time",
     );
-    list(store, 22, names::RSUB, 0, 0, 0, b"return");
+    list(store, 23, names::RSUB, 0, 0, 0, b"return");
 }
 
 // Where the bracket is stuck on its way down.
 fn list_stuck(store: &mut [u8; 7168]) {
-    list(store, 23, names::MST, 0, 0, 0, b"stuck: stop");
+    list(store, 24, names::MST, 0, 0, 0, b"stuck: stop");
     list(
         store,
-        24,
+        25,
         names::SIO,
         1,
         names::OUTPUTS,
         1,
         b"output 1 on: the bracket is stuck",
     );
-    list(store, 25, names::WAIT, names::TICKS, 0, 20, b"200 ms");
-    list(store, 26, names::SIO, 1, names::OUTPUTS, 0, b"output 1 off");
-    list(store, 27, names::CLE, 1, 0, 0, b"the timeout is dealt with");
-    list(store, 28, names::RSUB, 0, 0, 0, b"return");
+    list(store, 26, names::WAIT, names::TICKS, 0, 20, b"200 ms");
+    list(store, 27, names::SIO, 1, names::OUTPUTS, 0, b"output 1 off");
+    list(store, 28, names::CLE, 1, 0, 0, b"the timeout is dealt with");
+    list(store, 29, names::RSUB, 0, 0, 0, b"return");
 }
 
 pub(crate) fn list_all(store: &mut [u8; 7168]) {

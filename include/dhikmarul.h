@@ -45,23 +45,19 @@ extern "C" {
 
 /* ---- Numbers answered */
 
-#define DHIKMARUL_NO_REPLY                           0   /* datagram: another length, or not our address */
-#define DHIKMARUL_CHECKSUM                           1   /* checksum wrong */
-#define DHIKMARUL_UNKNOWN                            2   /* command unknown or not built */
-#define DHIKMARUL_WRONG_TYPE                         3   /* type wrong, or access not allowed */
-#define DHIKMARUL_WRONG_VALUE                        4   /* motor or bank wrong; value wrong */
-#define DHIKMARUL_LOCKED                             5   /* stored settings or program locked */
-#define DHIKMARUL_NOT_NOW                            6   /* not available now */
-#define DHIKMARUL_LENGTH                             20   /* a lent store or buffer of another length */
-#define DHIKMARUL_SAMPLE_RANGE                       21   /* a sample field out of range */
-#define DHIKMARUL_BUDGET                             22   /* a budget above DHIKMARUL_BUDGET_MOST */
-#define DHIKMARUL_HANDED_IN                          23   /* registers handed in out of range */
-#define DHIKMARUL_DONE                               100   /* done */
-#define DHIKMARUL_STORED                             101   /* put in program memory */
-
-/* Whether a datagram's answer says that nine bytes stand in the reply buffer. */
-#define DHIKMARUL_REPLIED(answer) \
-    ((answer) != DHIKMARUL_NO_REPLY && (answer) != DHIKMARUL_LENGTH && (answer) != DHIKMARUL_HANDED_IN)
+#define DHIKMARUL_STATUS_NO_REPLY                    0   /* datagram: another length, or not our address */
+#define DHIKMARUL_STATUS_CHECKSUM                    1   /* checksum wrong */
+#define DHIKMARUL_STATUS_UNKNOWN                     2   /* command unknown or not built */
+#define DHIKMARUL_STATUS_WRONG_TYPE                  3   /* type wrong, or access not allowed */
+#define DHIKMARUL_STATUS_WRONG_VALUE                 4   /* motor or bank wrong; value wrong */
+#define DHIKMARUL_STATUS_LOCKED                      5   /* stored settings or program locked */
+#define DHIKMARUL_STATUS_NOT_NOW                     6   /* not available now */
+#define DHIKMARUL_STATUS_LENGTH                      20   /* a lent store or buffer of another length */
+#define DHIKMARUL_STATUS_SAMPLE_RANGE                21   /* a sample field out of range */
+#define DHIKMARUL_STATUS_BUDGET                      22   /* a budget above DHIKMARUL_BUDGET_MOST */
+#define DHIKMARUL_STATUS_HANDED_IN                   23   /* registers handed in out of range */
+#define DHIKMARUL_STATUS_DONE                        100   /* done */
+#define DHIKMARUL_STATUS_STORED                      101   /* put in program memory */
 
 /* ---- Commands */
 
@@ -103,7 +99,7 @@ extern "C" {
 #define DHIKMARUL_RESET_BOARD                        255   /* as power-up; value DHIKMARUL_SURE */
 #define DHIKMARUL_SURE                               1234   /* the value that 137 and 255 want */
 
-/* ---- Type words, each for the command in its name */
+/* ---- Type words */
 
 #define DHIKMARUL_MVP_ABS                            0
 #define DHIKMARUL_MVP_REL                            1
@@ -116,7 +112,7 @@ extern "C" {
 #define DHIKMARUL_CALC_OR                            6
 #define DHIKMARUL_CALC_XOR                           7
 #define DHIKMARUL_CALC_NOT                           8
-#define DHIKMARUL_CALC_LOAD                          9   /* CALC: the accumulator takes the value; CALCX: X takes the accumulator */
+#define DHIKMARUL_CALC_LOAD                          9   /* CALC: value to accumulator; CALCX: accumulator to X */
 #define DHIKMARUL_CALCX_SWAP                         10   /* accumulator and X change places */
 #define DHIKMARUL_JC_ZE                              0   /* accumulator 0 */
 #define DHIKMARUL_JC_NZ                              1
@@ -130,7 +126,7 @@ extern "C" {
 #define DHIKMARUL_JC_EAL                             9   /* alarm flag */
 #define DHIKMARUL_JC_EDV                             10   /* deviation flag */
 #define DHIKMARUL_JC_EPO                             11   /* position flag */
-#define DHIKMARUL_WAIT_TICKS                         0   /* value in 10 ms; -1 takes the accumulator */
+#define DHIKMARUL_WAIT_TICKS                         0   /* value in 10 ms */
 #define DHIKMARUL_WAIT_POS                           1   /* position reached */
 #define DHIKMARUL_WAIT_REFSW                         2   /* home switch */
 #define DHIKMARUL_WAIT_LIMSW                         3   /* right or left switch */
@@ -144,7 +140,19 @@ extern "C" {
 #define DHIKMARUL_PROGRAM_VALUE                      0   /* 134: the record's value */
 #define DHIKMARUL_PROGRAM_COMMAND                    1   /* 134: command x 65,536 + type x 256 + motor */
 
-/* ---- Motors and banks */
+/* ---- Values with a meaning of their own */
+
+#define DHIKMARUL_WAIT_ACCUMULATOR                   (-1)   /* WAIT TICKS: as many ticks as the accumulator says */
+#define DHIKMARUL_OFF                                0   /* of an output, input, switch, alarm or flag */
+#define DHIKMARUL_ON                                 1
+#define DHIKMARUL_LESS                               (-1)   /* of DHIKMARUL_AT_COMPARISON */
+#define DHIKMARUL_EQUAL                              0
+#define DHIKMARUL_GREATER                            1
+#define DHIKMARUL_UNUSED                             0   /* a field that the command does not use */
+#define DHIKMARUL_BOARD_ADDRESS                      1   /* where a new board answers */
+#define DHIKMARUL_HOST_ADDRESS                       2   /* where a new board replies to */
+
+/* ---- Motors, banks and ports */
 
 #define DHIKMARUL_MOTOR                              0   /* the one motor */
 #define DHIKMARUL_BANK_SETTINGS                      0   /* SGP, GGP, AGP: DHIKMARUL_GLOBAL_* */
@@ -152,6 +160,10 @@ extern "C" {
 #define DHIKMARUL_BANK_DIGITAL                       0   /* GIO: digital inputs 0, 1 */
 #define DHIKMARUL_BANK_ANALOG                        1   /* GIO: analog inputs 0, 1, 2 */
 #define DHIKMARUL_BANK_OUTPUTS                       2   /* SIO, GIO: outputs 0 to 3 */
+#define DHIKMARUL_PORT_0                             0   /* type of SIO and GIO */
+#define DHIKMARUL_PORT_1                             1
+#define DHIKMARUL_PORT_2                             2
+#define DHIKMARUL_PORT_3                             3
 
 /* ---- Axis parameters: access, range, default */
 
@@ -303,30 +315,31 @@ extern "C" {
 #define DHIKMARUL_SAMPLE_ALARM_EAL                   13   /* 0 or 1: 1 sets the flag */
 #define DHIKMARUL_SAMPLE_ALARM_EDV                   14
 #define DHIKMARUL_SAMPLE_ALARM_EPO                   15
-#define DHIKMARUL_READ_HOST_ADDRESS                  0
-#define DHIKMARUL_READ_MODULE_ADDRESS                1
-#define DHIKMARUL_READ_STATUS                        2
-#define DHIKMARUL_READ_COMMAND                       3
-#define DHIKMARUL_READ_VALUE                         4
+#define DHIKMARUL_REPLY_HOST_ADDRESS                 0
+#define DHIKMARUL_REPLY_MODULE_ADDRESS               1
+#define DHIKMARUL_REPLY_STATUS                       2
+#define DHIKMARUL_REPLY_COMMAND                      3
+#define DHIKMARUL_REPLY_VALUE                        4
 
 /* ---- The board's side */
 
 /*
  * The cells of a new board: the default of each.
- * Answers DHIKMARUL_DONE, or DHIKMARUL_LENGTH, and then nothing is written.
+ * Answers DHIKMARUL_STATUS_DONE, or DHIKMARUL_STATUS_LENGTH, and then nothing is written.
  */
 uint8_t dhikmarul_new_cells(uint8_t *cells, size_t cells_length);
 
 /*
  * Power-up: each value takes its cell's if that is in range, else its default. Writes the whole image,
- * whatever it held. Answers DHIKMARUL_DONE, or DHIKMARUL_LENGTH, and then nothing is written.
+ * whatever it held. Answers DHIKMARUL_STATUS_DONE, or DHIKMARUL_STATUS_LENGTH, and then nothing is written.
  */
 uint8_t dhikmarul_power_up(int32_t registers[DHIKMARUL_REGISTERS], const uint8_t *cells, size_t cells_length);
 
 /*
  * A datagram of any bytes. Answers the reply's status, and `reply` holds its nine bytes; or
- * DHIKMARUL_NO_REPLY, DHIKMARUL_LENGTH (program, cells or reply) or DHIKMARUL_HANDED_IN, and then
- * nothing is written. DHIKMARUL_REPLIED tells the two apart.
+ * DHIKMARUL_STATUS_NO_REPLY, DHIKMARUL_STATUS_LENGTH (program, cells or reply) or
+ * DHIKMARUL_STATUS_HANDED_IN, and then nothing is changed. dhikmarul_replied tells the two apart. With
+ * statuses 1 to 6 the reply is all that changes.
  */
 uint8_t dhikmarul_datagram(int32_t registers[DHIKMARUL_REGISTERS],
                            uint8_t *program, size_t program_length,
@@ -336,17 +349,18 @@ uint8_t dhikmarul_datagram(int32_t registers[DHIKMARUL_REGISTERS],
 
 /*
  * What inputs, switches and alarms are found to be: DHIKMARUL_SAMPLE_* fields.
- * Answers DHIKMARUL_DONE, DHIKMARUL_HANDED_IN or DHIKMARUL_SAMPLE_RANGE.
+ * Answers DHIKMARUL_STATUS_DONE, or DHIKMARUL_STATUS_HANDED_IN or DHIKMARUL_STATUS_SAMPLE_RANGE, and
+ * then nothing is changed.
  */
 uint8_t dhikmarul_sample(int32_t registers[DHIKMARUL_REGISTERS], const int32_t sample[DHIKMARUL_SAMPLE_FIELDS]);
 
-/* 10 ms more. Answers DHIKMARUL_DONE or DHIKMARUL_HANDED_IN. */
+/* 10 ms more. Answers DHIKMARUL_STATUS_DONE or DHIKMARUL_STATUS_HANDED_IN. */
 uint8_t dhikmarul_tick(int32_t registers[DHIKMARUL_REGISTERS]);
 
 /*
  * At most `budget` steps of the program, fewer where it stops or a WAIT holds; `*steps` says how many.
- * Answers the last step's status (DHIKMARUL_DONE with no step), or DHIKMARUL_LENGTH,
- * DHIKMARUL_HANDED_IN or DHIKMARUL_BUDGET with 0 steps.
+ * Answers the last step's status (DHIKMARUL_STATUS_DONE with no step), or DHIKMARUL_STATUS_LENGTH,
+ * DHIKMARUL_STATUS_HANDED_IN or DHIKMARUL_STATUS_BUDGET with 0 steps, and then nothing else is changed.
  */
 uint8_t dhikmarul_run(int32_t registers[DHIKMARUL_REGISTERS],
                       const uint8_t *program, size_t program_length,
@@ -354,24 +368,31 @@ uint8_t dhikmarul_run(int32_t registers[DHIKMARUL_REGISTERS],
                       size_t budget, size_t *steps);
 
 /*
- * The program check, along every path from address 0. Answers DHIKMARUL_DONE for passed, with 0 and 0;
- * DHIKMARUL_LENGTH, with 0 and 0; or the status of the bad point of lowest address, then lowest depth,
+ * The program check, along every path from address 0. Answers DHIKMARUL_STATUS_DONE for passed, with 0 and 0;
+ * DHIKMARUL_STATUS_LENGTH, with 0 and 0; or the status of the bad point of lowest address, then lowest depth,
  * which `*address` and `*depth` name.
  */
 uint8_t dhikmarul_check(const uint8_t *program, size_t program_length, uint16_t *address, uint8_t *depth);
+
+/* Whether a datagram's answer says that nine bytes stand in the reply buffer. */
+static inline int dhikmarul_replied(uint8_t answer)
+{
+    return answer != DHIKMARUL_STATUS_NO_REPLY && answer != DHIKMARUL_STATUS_LENGTH
+        && answer != DHIKMARUL_STATUS_HANDED_IN;
+}
 
 /* ---- The display's side */
 
 /*
  * A command for the module at `address`, nine bytes into `out`.
- * Answers DHIKMARUL_DONE, or DHIKMARUL_LENGTH for a buffer of another length, and nothing is written.
+ * Answers DHIKMARUL_STATUS_DONE, or DHIKMARUL_STATUS_LENGTH for a buffer of another length, and nothing is written.
  */
 uint8_t dhikmarul_build_command(uint8_t *out, size_t out_length,
                                 uint8_t address, uint8_t command, uint8_t type, uint8_t motor, int32_t value);
 
 /*
- * The DHIKMARUL_READ_* numbers of a reply. Answers DHIKMARUL_DONE; or DHIKMARUL_LENGTH or
- * DHIKMARUL_CHECKSUM, and then each number is 0.
+ * The DHIKMARUL_REPLY_* numbers of a reply. Answers DHIKMARUL_STATUS_DONE; or DHIKMARUL_STATUS_LENGTH or
+ * DHIKMARUL_STATUS_CHECKSUM, and then each number is 0.
  */
 uint8_t dhikmarul_read_reply(const uint8_t *bytes, size_t bytes_length, int32_t numbers[DHIKMARUL_REPLY_NUMBERS]);
 

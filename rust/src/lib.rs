@@ -2,9 +2,10 @@
 //! board that obeys TMCL commands of nine bytes.
 //!
 //! The library keeps no memory of its own: every event is handed the board's
-//! [`Registers`] and is lent the stores it needs, and every refusal leaves all
-//! of them as they were. Each function takes every input; a store of a wrong
-//! length is answered with [`Status::WRONG_LENGTH`], not with a panic.
+//! [`Registers`] and is lent the stores it needs. A refusal leaves registers
+//! and both stores as they were; only a reply writes the reply buffer. Each
+//! function takes every input; a store of a wrong length is answered with
+//! [`Status::WRONG_LENGTH`], not with a panic.
 //!
 //! ```
 //! use dhikmarul::{build_command, read_reply, Registers, Status, Stores};
@@ -27,6 +28,7 @@
 //! ```
 
 mod ffi;
+pub mod name;
 pub mod place;
 
 /// Records a program store holds.

@@ -9,10 +9,6 @@ use crate::event::{Event, Hex, PLACES};
 use crate::library::LibraryBoard;
 use crate::plain::{status, Watch, CELLS_LENGTH, PROGRAM_LENGTH, RECORD_LENGTH};
 
-/// The program stores are compared whole when an event could write them, and
-/// every so many events all the same.
-const WHOLE_STORES_EVERY: u64 = 64;
-
 type Image = [i32; PLACES];
 
 /// The plain board, with the places of the image that its types cannot hold.
@@ -95,8 +91,7 @@ struct Before {
     image: Image,
     cells: Vec<u8>,
     reply: Vec<u8>,
-    /// Kept only where the event can write the program store.
-    program: Option<Vec<u8>>,
+    program: Vec<u8>,
 }
 
 impl Default for Pair {
@@ -112,7 +107,7 @@ impl Pair {
             image: plain.image(),
             cells: plain.board.cells.clone(),
             reply: plain.board.reply.clone(),
-            program: None,
+            program: plain.board.program.clone(),
         };
         Pair { plain, library: LibraryBoard::new(), before, compared: 0 }
     }
@@ -136,19 +131,18 @@ impl Pair {
             // A new board is a power-up of both; all else only sets.
             return if *event == Event::New { self.judge(event, None) } else { Ok(Answer::Set) };
         }
-        self.remember(event);
+        self.remember();
         let expected = self.plain.apply(event, watch);
         let answer = self.library.apply(event);
         self.judge(event, Some((expected, answer)))
     }
 
-    fn remember(&mut self, event: &Event) {
+    fn remember(&mut self) {
         let board = &self.plain.board;
         self.before.image = self.plain.image();
         self.before.cells.clone_from(&board.cells);
         self.before.reply.clone_from(&board.reply);
-        let writes = matches!(event, Event::Datagram(_)) && board.registers.download;
-        self.before.program = writes.then(|| board.program.clone());
+        self.before.program.clone_from(&board.program);
     }
 
     fn judge(
@@ -157,14 +151,12 @@ impl Pair {
         answers: Option<(Answer, Answer)>,
     ) -> Result<Answer, String> {
         self.compared += 1;
-        let whole =
-            self.before.program.is_some() || self.compared.is_multiple_of(WHOLE_STORES_EVERY);
         let board = &self.plain.board;
         let same = answers.is_none_or(|(expected, answer)| expected == answer)
             && self.plain.image() == self.library.registers.0
             && board.cells == self.library.cells
             && board.reply == self.library.reply
-            && (!whole || board.program == self.library.program);
+            && board.program == self.library.program;
         if same {
             return Ok(answers.map_or(Answer::Set, |(expected, _)| expected));
         }
@@ -222,12 +214,13 @@ impl Pair {
         writeln!(out, "reply after, library: {}", Hex(&self.library.reply))
     }
 
-    /// The state before and the event as a script, to be played again. It
-    /// leaves out stores of a wrong length and the reply buffer.
+    /// The state before and the event as a script, to be played again. A store
+    /// of a wrong length is cut or lengthened as `l` does it; the reply buffer
+    /// has no line to set it by, and no event reads it.
     fn report_script(&self, event: &Event, out: &mut String) -> fmt::Result {
         writeln!(out, "the state before and the event as a script:\nn")?;
         let new = Board::new();
-        let program = self.before.program.as_ref().unwrap_or(&self.plain.board.program);
+        let program = &self.before.program;
         for (address, record) in program.chunks_exact(RECORD_LENGTH).enumerate() {
             if record.iter().any(|&byte| byte != 0) {
                 writeln!(out, "w {address} {}", Hex(record))?;
@@ -244,6 +237,14 @@ impl Pair {
                 place::WAIT_COUNT => writeln!(out, "q {at} {}", value as u32)?,
                 _ => writeln!(out, "q {at} {value}")?,
             }
+        }
+        let lengths = [
+            (program.len(), PROGRAM_LENGTH),
+            (self.before.cells.len(), CELLS_LENGTH),
+            (self.before.reply.len(), 9),
+        ];
+        for (which, (length, _)) in lengths.iter().enumerate().filter(|(_, (a, b))| a != b) {
+            writeln!(out, "l {which} {length}")?;
         }
         writeln!(out, "{event}\nu")
     }

@@ -39,6 +39,13 @@ fn time(row: &Row) -> (f64, f64) {
     assert_eq!(library.registers.0, plain.registers.image(), "{}", row.name);
     assert_eq!(library.cells, plain.cells, "{}", row.name);
     assert_eq!(library.reply, plain.reply, "{}", row.name);
+    let (verdict, plain_verdict) = (dhikmarul::check(&library.program), check(&plain.program));
+    assert_eq!(
+        (verdict.status.0, verdict.address, verdict.depth),
+        (plain_verdict.status, plain_verdict.address, plain_verdict.depth),
+        "{}",
+        row.name
+    );
     let units = (turns * row.units()) as f64;
     (best.0.as_nanos() as f64 / units, best.1.as_nanos() as f64 / units)
 }

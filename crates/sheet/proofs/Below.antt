@@ -31,3 +31,8 @@ below-next f n h e = rw add-one (simp (h, e))
 pub below-of : (f : ℕ → Bool) (n : ℕ) → ((k : ℕ) → k < n → f k ≡ true) → allBelow f n ≡ true
 below-of f zero h = refl
 below-of f (suc n) h = simp (h n (omega arith), below-of f n (λ k l. h k (omega arith)))
+
+-- two tests that agree at every number below n
+pub below-same : (f g : ℕ → Bool) (n : ℕ) → ((k : ℕ) → k < n → f k ≡ g k) → allBelow f n ≡ allBelow g n
+below-same f g zero h = refl
+below-same f g (suc n) h = simp (h n (omega arith), below-same f g n (λ k l. h k (omega arith)))

@@ -19,19 +19,19 @@ use Rattle.sheet.proofs.Below.{below, below-of}
 use Rattle.sheet.proofs.Rules.{takes, defaults}
 use Rattle.sheet.proofs.Tables.{at-tabulate, length-tabulate}
 use Rattle.store.specs.Store.{cellAt}
-use Rattle.values.specs.Values.{valueAt, setValue, valuesInRange, poweredAt, poweredValues}
+use Rattle.values.specs.Values.{valueAt, setValue, allowedAt, valuesInRange, poweredAt, poweredValues}
 use Rattle.values.specs.Laws.{Laws}
-use Rattle.values.proofs.Scan.{good, row-of-parameter}
+use Rattle.values.proofs.Scan.{row-of-parameter}
 
 -- in range is: at every place
 module _ (vs : List ℤ) where
-  pub at-place : valuesInRange parameters vs ≡ true → (i : ℕ) → i < 47 → good vs i ≡ true
+  pub at-place : valuesInRange parameters vs ≡ true → (i : ℕ) → i < 47 → allowedAt parameters vs i ≡ true
   unfolding valuesInRange parameters axis globals rweRows rwRows rRows
-  at-place h i l = is-true (good vs i) (below (good vs) 47 (is-T (valuesInRange parameters vs) h) i l)
+  at-place h i l = is-true (allowedAt parameters vs i) (below (allowedAt parameters vs) 47 (is-T (valuesInRange parameters vs) h) i l)
 
-  pub of-places : ((i : ℕ) → i < 47 → good vs i ≡ true) → valuesInRange parameters vs ≡ true
+  pub of-places : ((i : ℕ) → i < 47 → allowedAt parameters vs i ≡ true) → valuesInRange parameters vs ≡ true
   unfolding valuesInRange parameters axis globals rweRows rwRows rRows
-  of-places h = below-of (good vs) 47 h
+  of-places h = below-of (allowedAt parameters vs) 47 h
 
 module _ (vs : List ℤ) (i : ℕ) (z : ℤ) where
   pub set-length : length (setValue vs i z) ≡ length vs
@@ -57,12 +57,12 @@ module _ (vs : List ℤ) (i : ℕ) (z : ℤ) where
   pub set-in-range : length vs ≡ 103 → valuesInRange parameters vs ≡ true → allowed (rowAt rows i) z ≡ true → valuesInRange parameters (setValue vs i z) ≡ true
   set-in-range l h a = of-places (setValue vs i z) (λ j g. by j g (eqb j i) refl)
     where
-      here : (j : ℕ) → j < 47 → j ≡ i → good (setValue vs i z) j ≡ true
+      here : (j : ℕ) → j < 47 → j ≡ i → allowedAt parameters (setValue vs i z) j ≡ true
       here j g e =
           let f : i < 103 = omega arith in
           rw (e, lt-ltb i 103 f, getD-set-same vs i z (pos 0) (rw l f), ← row-of-parameter i (omega arith)) a
 
-      by : (j : ℕ) → j < 47 → (b : Bool) → eqb j i ≡ b → good (setValue vs i z) j ≡ true
+      by : (j : ℕ) → j < 47 → (b : Bool) → eqb j i ≡ b → allowedAt parameters (setValue vs i z) j ≡ true
       by j g true e = here j g (eqb-true j i e)
       by j g false e = rw (set-at j (eqb-false j i e)) (at-place vs h j g)
 
@@ -103,7 +103,7 @@ module _ (s : List ℕ) where
   pub powered-in-range : valuesInRange parameters (poweredValues rows s) ≡ true
   powered-in-range = of-places (poweredValues rows s) (λ i h. by i h)
     where
-      by : (i : ℕ) → i < 47 → good (poweredValues rows s) i ≡ true
+      by : (i : ℕ) → i < 47 → allowedAt parameters (poweredValues rows s) i ≡ true
       by i h = rw (powered-get i (omega arith), ← row-of-parameter i h) (is-true (allowed (rowAt rows i) (poweredAt rows s i .v)) (powered-allowed i))
 
 pub laws : Laws

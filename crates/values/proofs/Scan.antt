@@ -1,8 +1,8 @@
 -- The parameters looked at one after the other. Assumes nothing.
-use Prim.Native.Nat.{ℕ, _<_}
+use Prim.Native.Nat.{ℕ, _+_, _<_}
 use native.Mathlib.Omega.{arith}
 use mathlib.Core.Path.{_≡_, subst}
-use mathlib.Core.Bool.{Bool, true, false}
+use mathlib.Core.Bool.{Bool, _&&_}
 use mathlib.Core.List.{List}
 use borrow.Author.Tests.{lt-ltb}
 use lib.IntN.{ℤ, pos}
@@ -13,29 +13,27 @@ use Rattle.sheet.specs.Rows.{parameters, rows, rowAt}
 use Rattle.sheet.specs.Sheet.{axis, globals, rweRows, rwRows, rRows, userRow}
 use Rattle.sheet.specs.Places.{allBelow}
 use Rattle.rows.specs.declared.Row.{Row}
-use Rattle.sheet.proofs.Below.{below-not}
+use Rattle.words.proofs.Bools.{and-assoc, and-again, and-true}
+use Rattle.sheet.proofs.Below.{below-same}
 use Rattle.sheet.proofs.Lines.{parameter-row}
-use Rattle.values.specs.Values.{valueAt, valuesInRange}
+use Rattle.values.specs.Values.{allowedAt, eight, valuesInRange}
 
 pub row-of-parameter : (i : ℕ) → i < 47 → rowAt rows i ≡ rowAt parameters i
 unfolding rows parameters axis globals rweRows rwRows rRows
 row-of-parameter i h = parameter-row parameters (replicate 56 userRow) i h
 
-module _ (vs : List ℤ) where
-  -- the value at a place is allowed
-  abbrev pub good : ℕ → Bool
-  good i = allowed (rowAt parameters i) (getD vs i (pos 0))
+-- eight tests as the code makes them
+pub eight-found :
+    (f : ℕ → Bool) (i : ℕ) {a b c d e g h k : Bool}
+    → a ≡ f (i + 7) → b ≡ f (i + 6) → c ≡ f (i + 5) → d ≡ f (i + 4) → e ≡ f (i + 3) → g ≡ f (i + 2) → h ≡ f (i + 1) → k ≡ f i
+    → (((((((a && b) && c) && d) && e) && g) && h) && k) ≡ eight f i
+eight-found f i p q r s t u v w = simp (p, q, r, s, t, u, v, w, and-assoc)
 
-  -- as the code finds it
-  pub found : {b : Bool} {x : Row} {w : Word} (i : ℕ) → i < 47 → b ≡ allowed x (w .v) → x ≡ rowAt rows i → w ≡ valueAt vs i → good i ≡ b
-  found i h e p q =
-      let f : i < 103 = omega arith in
-      rw (e, p, q, row-of-parameter i h, lt-ltb i 103 f)
+-- five times eight from 7 on, and the first eight
+pub eights : (f : ℕ → Bool) → (((((eight f 39 && eight f 31) && eight f 23) && eight f 15) && eight f 7) && eight f 0) ≡ allBelow f 47
+eights f = simp (and-assoc, and-again, and-true)
 
-  pub one-bad : (i : ℕ) → i < 47 → good i ≡ false → valuesInRange parameters vs ≡ false
-  unfolding valuesInRange parameters axis globals rweRows rwRows rRows
-  one-bad i h e = below-not good 47 i h e
-
-  pub all-good : (i : ℕ) → i ≡ 47 → allBelow good i ≡ true → valuesInRange parameters vs ≡ true
-  unfolding valuesInRange parameters axis globals rweRows rwRows rRows
-  all-good i e h = subst (λ (n : ℕ). allBelow good n ≡ true) e h
+-- the rows of the parameters are the first of all rows
+pub parameters-allowed : (vs : List ℤ) → allBelow (allowedAt rows vs) 47 ≡ valuesInRange parameters vs
+unfolding valuesInRange parameters axis globals rweRows rwRows rRows
+parameters-allowed vs = below-same (allowedAt rows vs) (allowedAt parameters vs) 47 (λ i h. rw (row-of-parameter i h))

@@ -1,0 +1,10 @@
+-- `image_range::analog_in_range` meets its contract. Assumes nothing.
+use borrow.Author.Needs.{needs}
+use Rattle.image_range.proofs.analog_in_range.Statement.{statement}
+use Rattle.image_range.proofs.analog_in_range.Tie as tie
+
+returns : tie.Need-returns
+returns c = simp (c .within .ensures, c .before .number-at .ensures)
+
+pub analog-in-range-spec : {M : Type 1} → statement M
+analog-in-range-spec = tie.close (tie.spec (λ c κs. search needs) (λ c κs. search needs) returns)

@@ -38,7 +38,7 @@ fn exchange(
     let mut frame = [0u8; 9];
     let mut reply = [0u8; 9];
     display::build_command(&mut frame, 1, sent);
-    let status = numbered::datagram(image, program, cells, &mut reply, &frame);
+    let status = image_datagrams::datagram(image, program, cells, &mut reply, &frame);
     if is_told {
         text(b"  ");
         crate::mnemonic::write(sent);
@@ -139,13 +139,13 @@ fn turn(
     let mut after = outside;
     after.position = bracket::moved(image, outside.position, outside.lowest);
     let fields = bracket::sample(image, after);
-    numbered::sample(image, &fields);
-    numbered::run(image, program, cells, 1000);
+    image_events::sample(image, &fields);
+    image_runs::run(image, program, cells, 1000);
     let has_moved = after.position != outside.position;
     if is_due(outside.time, before, trace::look(image), has_moved) {
         trace::line(outside.time, before, image, program);
     }
-    numbered::tick(image);
+    image_events::tick(image);
     after.time = wrapping_add_u64(outside.time, 1);
     after
 }
@@ -169,7 +169,7 @@ pub(crate) fn pass(
 
 // Ignition off and on: the working values go, the cells stay.
 pub(crate) fn ignite(image: &mut [i32; 137], cells: &[u8; 364]) {
-    numbered::power_up(image, cells);
+    image_events::power_up(image, cells);
     if image[names::AT_RUNNING] == 1 {
         text(b"Ignition on: global 77 is 1, so the program runs by itself.\n");
     } else {

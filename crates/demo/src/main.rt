@@ -35,7 +35,7 @@ fn show_loading(
     listed: &[u8; 7168],
 ) {
     text(b"\n3. A new board is loaded: nine bytes there, nine bytes back\n");
-    numbered::new_cells(cells);
+    image_events::new_cells(cells);
     bench::ignite(image, cells);
     bench::load(image, program, cells, listed, tilt::RECORDS);
     bench::send(image, program, cells, names::READ_PROGRAM, 1, 0, 9);

@@ -4,9 +4,9 @@
 // array of known length is a pointer alone. Each function does what the one of its name in `numbered`
 // does, and takes every input.
 ghost use mathlib.Core.Path.{_≡_};
-ghost use Rattle.numbered.specs.Events as events;
-ghost use Rattle.numbered.specs.Datagram as datagrams;
-ghost use Rattle.numbered.specs.Run as runs;
+ghost use Rattle.image_events.specs.Events as events;
+ghost use Rattle.image_datagrams.specs.Datagram as datagrams;
+ghost use Rattle.image_runs.specs.Run as runs;
 ghost use Rattle.numbered.specs.Host as host;
 ghost use Rattle.dhikmarul.specs.Answers.{Checked};
 
@@ -15,7 +15,7 @@ ghost use Rattle.dhikmarul.specs.Answers.{Checked};
 pub extern "C" fn dhikmarul_new_cells(cells: &mut [u8]) -> u8
     ensures { λ r. ⌜ events.cellsLeft r (now (cells .exit)) ≡ events.newCells (now (cells .entry)) ⌝ }
 {
-    numbered::new_cells(cells)
+    image_events::new_cells(cells)
 }
 
 // Power-up.
@@ -23,7 +23,7 @@ pub extern "C" fn dhikmarul_new_cells(cells: &mut [u8]) -> u8
 pub extern "C" fn dhikmarul_power_up(registers: &mut [i32; 137], cells: &[u8]) -> u8
     ensures { λ r. ⌜ events.told r (now (registers .exit)) ≡ events.poweredUp (now (cells .entry)) (now (registers .entry)) ⌝ }
 {
-    numbered::power_up(registers, cells)
+    image_events::power_up(registers, cells)
 }
 
 // A datagram.
@@ -37,7 +37,7 @@ pub extern "C" fn dhikmarul_datagram(
 ) -> u8
     ensures { λ r. ⌜ datagrams.left r (now (registers .exit)) (now (program .exit)) (now (cells .exit)) (now (reply .exit)) ≡ datagrams.datagram (now (bytes .entry)) (now (registers .entry)) (now (program .entry)) (now (cells .entry)) (now (reply .entry)) ⌝ }
 {
-    numbered::datagram(registers, program, cells, reply, bytes)
+    image_datagrams::datagram(registers, program, cells, reply, bytes)
 }
 
 // A sample of sixteen fields.
@@ -45,7 +45,7 @@ pub extern "C" fn dhikmarul_datagram(
 pub extern "C" fn dhikmarul_sample(registers: &mut [i32; 137], fields: &[i32; 16]) -> u8
     ensures { λ r. ⌜ events.told r (now (registers .exit)) ≡ events.sampled (now (fields .entry)) (now (registers .entry)) ⌝ }
 {
-    numbered::sample(registers, fields)
+    image_events::sample(registers, fields)
 }
 
 // A tick.
@@ -53,7 +53,7 @@ pub extern "C" fn dhikmarul_sample(registers: &mut [i32; 137], fields: &[i32; 16
 pub extern "C" fn dhikmarul_tick(registers: &mut [i32; 137]) -> u8
     ensures { λ r. ⌜ events.told r (now (registers .exit)) ≡ events.ticked (now (registers .entry)) ⌝ }
 {
-    numbered::tick(registers)
+    image_events::tick(registers)
 }
 
 // A run, and how many steps it made.
@@ -67,7 +67,7 @@ pub extern "C" fn dhikmarul_run(
 ) -> u8
     ensures { λ r. ⌜ runs.left (runs.ran r (now (steps .exit))) (now (registers .exit)) (now (cells .exit)) ≡ runs.run (now (program .entry)) budget (now (registers .entry)) (now (cells .entry)) ⌝ }
 {
-    let ran = numbered::run(registers, program, cells, budget);
+    let ran = image_runs::run(registers, program, cells, budget);
     *steps = ran.steps;
     ran.status
 }

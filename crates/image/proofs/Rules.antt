@@ -20,7 +20,7 @@ use Rattle.image.proofs.Stores.{whole}
 use Rattle.image.proofs.Trips as trips
 
 -- ---- a list is what stands at its places
-by-places : {A : Type 0} (d : A) (n : ℕ) (l : List A) → length l ≡ n → tabulate (λ i. getD l i d) 0 n ≡ l
+pub by-places : {A : Type 0} (d : A) (n : ℕ) (l : List A) → length l ≡ n → tabulate (λ i. getD l i d) 0 n ≡ l
 by-places {A = A} d n l e =
     let f : ℕ → A = λ i. getD l i d in
     ext-getD d (tabulate f 0 n) l (length-tabulate f 0 n ∙ sym e)

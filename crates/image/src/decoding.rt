@@ -37,7 +37,7 @@ fn order_of(bits: u32) -> Order
     }
 }
 
-fn flags_of(image: &[i32; 137]) -> Flags
+pub fn flags_of(image: &[i32; 137]) -> Flags
     ensures { λ r. ⌜ r ≡ spec.flagsOf (now (image .entry)) ⌝ }
 {
     Flags {
@@ -48,7 +48,7 @@ fn flags_of(image: &[i32; 137]) -> Flags
     }
 }
 
-fn wait_of(image: &[i32; 137]) -> Wait
+pub fn wait_of(image: &[i32; 137]) -> Wait
     ensures { λ r. ⌜ r ≡ spec.waitOf (now (image .entry)) ⌝ }
 {
     Wait {
@@ -67,7 +67,7 @@ fn motion_of(image: &[i32; 137]) -> Motion
     }
 }
 
-fn core_of(image: &[i32; 137]) -> Core
+pub fn core_of(image: &[i32; 137]) -> Core
     ensures { λ r. ⌜ r ≡ spec.coreOf (now (image .entry)) ⌝ }
 {
     Core {
@@ -83,7 +83,7 @@ fn core_of(image: &[i32; 137]) -> Core
     }
 }
 
-fn download_of(image: &[i32; 137]) -> Download
+pub fn download_of(image: &[i32; 137]) -> Download
     ensures { λ r. ⌜ r ≡ spec.downloadOf (now (image .entry)) ⌝ }
 {
     Download {
@@ -92,7 +92,7 @@ fn download_of(image: &[i32; 137]) -> Download
     }
 }
 
-fn outputs_of(image: &[i32; 137]) -> [u8; 4]
+pub fn outputs_of(image: &[i32; 137]) -> [u8; 4]
     ensures { λ r. ⌜ r ≡ spec.outputsOf (now (image .entry)) ⌝ }
 {
     [
@@ -103,19 +103,19 @@ fn outputs_of(image: &[i32; 137]) -> [u8; 4]
     ]
 }
 
-fn digital_of(image: &[i32; 137]) -> [u8; 2]
+pub fn digital_of(image: &[i32; 137]) -> [u8; 2]
     ensures { λ r. ⌜ r ≡ spec.digitalOf (now (image .entry)) ⌝ }
 {
     [byte_at(image, 20), byte_at(image, 21)]
 }
 
-fn analog_of(image: &[i32; 137]) -> [i32; 3]
+pub fn analog_of(image: &[i32; 137]) -> [i32; 3]
     ensures { λ r. ⌜ r ≡ spec.analogOf (now (image .entry)) ⌝ }
 {
     [image[22], image[23], image[24]]
 }
 
-fn entries_of(image: &[i32; 137]) -> [u16; 8]
+pub fn entries_of(image: &[i32; 137]) -> [u16; 8]
     ensures { λ r. ⌜ r ≡ spec.entriesOf (now (image .entry)) ⌝ }
 {
     [
@@ -130,7 +130,7 @@ fn entries_of(image: &[i32; 137]) -> [u16; 8]
     ]
 }
 
-fn values_of(image: &[i32; 137]) -> [i32; 103]
+pub fn values_of(image: &[i32; 137]) -> [i32; 103]
     ensures { λ r. ⌜ r ≡ spec.valuesOf (now (image .entry)) 34 ⌝ }
 {
     let mut values = [0i32; 103];

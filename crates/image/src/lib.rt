@@ -12,7 +12,16 @@ mod decoding;
 mod encoding;
 mod number;
 
+pub use decoding::analog_of;
+pub use decoding::core_of;
 pub use decoding::decode;
+pub use decoding::digital_of;
+pub use decoding::download_of;
+pub use decoding::entries_of;
+pub use decoding::flags_of;
+pub use decoding::outputs_of;
+pub use decoding::values_of;
+pub use decoding::wait_of;
 pub use encoding::encode;
 use number::number_at;
 

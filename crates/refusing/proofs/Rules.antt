@@ -23,9 +23,9 @@ use Rattle.promises.specs.Laws as event-laws
 use Rattle.promises.specs.Commands as command-laws
 use Rattle.promises.proofs.Rules as promises
 use Rattle.promises.proofs.Refusals as refusals
-use Rattle.numbered.specs.Events.{Told, told, put, putOutcome, sampleOf, sampled, ticked}
-use Rattle.numbered.specs.Datagram as numbered
-use Rattle.numbered.specs.Run as numbered-run
+use Rattle.image_events.specs.Events.{Told, told, put, putOutcome, sampleOf, sampled, ticked}
+use Rattle.image_datagrams.specs.Datagram as datagrams-of
+use Rattle.image_runs.specs.Run as runs-of
 use Rattle.numbered.specs.Check.{numbersOf, Checks}
 use Rattle.numbered.specs.declared.Checked.{Checked}
 use Rattle.refusing.specs.Laws.{Numbers, Laws}
@@ -56,24 +56,24 @@ module _ (l : List ℤ) (k : Numbers l) where
       either (λ (t : Told). (t .status ≡ 100 → ⊥) → t .image ≡ l) (isImage l) (putOutcome l (events.sampled (sampleOf f) (decoded l))) (told 23 l)
       (λ e n. back e (the-events .sample-refused (sampleOf f) (decoded l) n)) (λ e n. refl)
 
-  pub run-refused : (program : List ℕ) (budget : ℕ) (m : List ℕ) → isImage l && (isProgramStore program && isParameterStore m && (registersInRange (decoded l) && leb budget 1000)) ≡ false → (numbered-run.run program budget l m .image ≡ l) × (numbered-run.run program budget l m .cells ≡ m) × (numbered-run.run program budget l m .ran .steps ≡ 0)
-  unfolding numbered-run.run
+  pub run-refused : (program : List ℕ) (budget : ℕ) (m : List ℕ) → isImage l && (isProgramStore program && isParameterStore m && (registersInRange (decoded l) && leb budget 1000)) ≡ false → (runs-of.run program budget l m .image ≡ l) × (runs-of.run program budget l m .cells ≡ m) × (runs-of.run program budget l m .ran .steps ≡ 0)
+  unfolding runs-of.run
   run-refused program budget m n =
-      either (λ (t : numbered-run.Left). (t .image ≡ l) × (t .cells ≡ m) × (t .ran .steps ≡ 0)) (isImage l) (numbered-run.leftBy l (runs.run program budget (decoded l) m)) _
+      either (λ (t : runs-of.Left). (t .image ≡ l) × (t .cells ≡ m) × (t .ran .steps ≡ 0)) (isImage l) (runs-of.leftBy l (runs.run program budget (decoded l) m)) _
       (λ e. let q = the-commands .run-refused program budget (decoded l) m (not-other (isImage l) _ e n) in (back e (q .0), q .1, q .2)) (λ e. (refl, refl, refl))
 
-  pub datagram-refused : (bytes p m b : List ℕ) → (numbered.datagram bytes l p m b .status ≡ 100 → ⊥) → (numbered.datagram bytes l p m b .status ≡ 101 → ⊥) → (numbered.datagram bytes l p m b .image ≡ l) × (numbered.datagram bytes l p m b .program ≡ p) × (numbered.datagram bytes l p m b .cells ≡ m)
-  unfolding numbered.datagram
+  pub datagram-refused : (bytes p m b : List ℕ) → (datagrams-of.datagram bytes l p m b .status ≡ 100 → ⊥) → (datagrams-of.datagram bytes l p m b .status ≡ 101 → ⊥) → (datagrams-of.datagram bytes l p m b .image ≡ l) × (datagrams-of.datagram bytes l p m b .program ≡ p) × (datagrams-of.datagram bytes l p m b .cells ≡ m)
+  unfolding datagrams-of.datagram
   datagram-refused bytes p m b =
       let x = datagrams.board (decoded l) p m b in
-      either (λ (t : numbered.Left). (t .status ≡ 100 → ⊥) → (t .status ≡ 101 → ⊥) → (t .image ≡ l) × (t .program ≡ p) × (t .cells ≡ m)) (isImage l) (numbered.leftBy l (datagrams.datagram bytes x)) (numbered.left (numbered.refused (datagrams.lent p m b)) l p m b)
+      either (λ (t : datagrams-of.Left). (t .status ≡ 100 → ⊥) → (t .status ≡ 101 → ⊥) → (t .image ≡ l) × (t .program ≡ p) × (t .cells ≡ m)) (isImage l) (datagrams-of.leftBy l (datagrams.datagram bytes x)) (datagrams-of.left (datagrams-of.refused (datagrams.lent p m b)) l p m b)
       (λ e n o. let q = the-commands .datagram-refused bytes x n o in (back e (ap (λ (y : datagrams.Board). y .registers) q), ap (λ (y : datagrams.Board). y .program) q, ap (λ (y : datagrams.Board). y .store) q)) (λ e n o. (refl, refl, refl))
 
-pub datagram-shut : (bytes : List ℕ) (l : List ℤ) (p m b : List ℕ) → isImage l && (datagrams.lent p m b && registersInRange (decoded l)) ≡ false → numbered.datagram bytes l p m b .reply ≡ b
-unfolding numbered.datagram
+pub datagram-shut : (bytes : List ℕ) (l : List ℤ) (p m b : List ℕ) → isImage l && (datagrams.lent p m b && registersInRange (decoded l)) ≡ false → datagrams-of.datagram bytes l p m b .reply ≡ b
+unfolding datagrams-of.datagram
 datagram-shut bytes l p m b n =
     let x = datagrams.board (decoded l) p m b in
-    either (λ (t : numbered.Left). t .reply ≡ b) (isImage l) (numbered.leftBy l (datagrams.datagram bytes x)) (numbered.left (numbered.refused (datagrams.lent p m b)) l p m b)
+    either (λ (t : datagrams-of.Left). t .reply ≡ b) (isImage l) (datagrams-of.leftBy l (datagrams.datagram bytes x)) (datagrams-of.left (datagrams-of.refused (datagrams.lent p m b)) l p m b)
     (λ e. ap (λ (y : datagrams.Board). y .reply) (the-commands .datagram-shut bytes x (not-other (isImage l) _ e n))) (λ e. refl)
 
 pub one-check : (program : List ℕ) (c d : Checked) → Checks program c → Checks program d → c ≡ d

@@ -11,9 +11,9 @@ use Rattle.board.specs.Range.{registersInRange}
 use Rattle.image.specs.Image.{isImage, decoded}
 use Rattle.image.specs.Laws.{AllWords}
 use Rattle.datagrams.specs.Datagram.{lent}
-use Rattle.numbered.specs.Events.{sampled, ticked}
-use Rattle.numbered.specs.Datagram.{datagram}
-use Rattle.numbered.specs.Run.{run}
+use Rattle.image_events.specs.Events.{sampled, ticked}
+use Rattle.image_datagrams.specs.Datagram.{datagram}
+use Rattle.image_runs.specs.Run.{run}
 use Rattle.numbered.specs.Check.{Checks}
 use Rattle.numbered.specs.declared.Checked.{Checked}
 

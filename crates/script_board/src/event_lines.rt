@@ -41,7 +41,7 @@ fn tell(
     let c = within(lengths[1], cells);
     let r = within(lengths[2], reply);
     let n = within(count, bytes);
-    numbered::datagram(
+    image_datagrams::datagram(
         image,
         &mut program[..p],
         &mut cells[..c],
@@ -106,14 +106,14 @@ pub(crate) fn sample(
     if text::numbers_at(line, 1, 16, &mut fields) != line.len() {
         return 0;
     }
-    put_status(out, at, b's', numbered::sample(image, &fields))
+    put_status(out, at, b's', image_events::sample(image, &fields))
 }
 
 pub(crate) fn tick(image: &mut [i32; 137], line: &[u8], out: &mut [u8; 65536], at: usize) -> usize {
     if line.len() != 1 {
         return 0;
     }
-    put_status(out, at, b't', numbered::tick(image))
+    put_status(out, at, b't', image_events::tick(image))
 }
 
 // A run, lent the stores at their lengths.
@@ -128,7 +128,7 @@ fn ran(
 ) -> usize {
     let p = within(lengths[0], program);
     let c = within(lengths[1], cells);
-    let done = numbered::run(image, &program[..p], &mut cells[..c], budget);
+    let done = image_runs::run(image, &program[..p], &mut cells[..c], budget);
     let behind = put_status(out, at, b'r', done.status);
     text::put_number(out, behind, done.steps as u64)
 }
@@ -155,7 +155,7 @@ pub(crate) fn run(
 // Power-up, lent the parameter store at its length.
 pub(crate) fn powered(image: &mut [i32; 137], cells: &[u8], length: usize) -> u8 {
     let c = within(length, cells);
-    numbered::power_up(image, &cells[..c])
+    image_events::power_up(image, &cells[..c])
 }
 
 pub(crate) fn power_up(

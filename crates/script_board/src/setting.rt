@@ -14,7 +14,7 @@ use words::Word;
 // The default cells.
 fn renew_cells(cells: &mut [u8]) {
     let n = within(CELLS, cells);
-    numbered::new_cells(&mut cells[..n]);
+    image_events::new_cells(&mut cells[..n]);
 }
 
 // No program, default cells, an empty reply buffer, powered up.

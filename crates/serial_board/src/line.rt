@@ -55,7 +55,7 @@ fn turn(
     cells_name: &[u8],
     program_name: &[u8],
 ) -> bool {
-    let status = numbered::datagram(image, program, cells, reply, frame);
+    let status = image_datagrams::datagram(image, program, cells, reply, frame);
     if !images::keep(program_name, program, held_program) {
         return false;
     }
@@ -65,8 +65,8 @@ fn turn(
     if !send(status, reply) {
         return false;
     }
-    numbered::tick(image);
-    numbered::run(image, program, cells, STEPS);
+    image_events::tick(image);
+    image_runs::run(image, program, cells, STEPS);
     images::keep(cells_name, cells, held_cells)
 }
 
@@ -107,7 +107,7 @@ fn turns(
 
 // The cells of a file, or the default ones. Answers false where the file is refused.
 fn take_cells(name: &[u8], cells: &mut [u8; 364], room: &mut [u8; 8192]) -> bool {
-    numbered::new_cells(cells);
+    image_events::new_cells(cells);
     if name.len() == 0 {
         return true;
     }
@@ -150,7 +150,7 @@ fn begin(
     let mut image = [0i32; 137];
     let mut reply = [0u8; 9];
     let mut frame = [0u8; 9];
-    numbered::power_up(&mut image, cells);
+    image_events::power_up(&mut image, cells);
     turns(
         &mut image,
         program,

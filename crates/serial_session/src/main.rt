@@ -89,7 +89,7 @@ fn put_file(
 // The cells of a new board.
 fn fresh_cells(image: &mut [u8]) {
     if 364 <= image.len() {
-        numbered::new_cells(&mut image[0..364]);
+        image_events::new_cells(&mut image[0..364]);
     }
 }
 

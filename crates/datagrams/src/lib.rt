@@ -25,7 +25,7 @@ pub struct Answered {
 }
 
 // Whether the lent memory has its three lengths.
-fn lent(program: &[u8], store: &[u8], reply: &[u8]) -> bool
+pub fn lent(program: &[u8], store: &[u8], reply: &[u8]) -> bool
     ensures { λ r. ⌜ r ≡ spec.lent (now (program .entry)) (now (store .entry)) (now (reply .entry)) ⌝ }
 {
     if !store::is_program_store(program) {

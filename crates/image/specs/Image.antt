@@ -16,6 +16,11 @@ use Rattle.board.specs.declared.Registers.{Registers}
 use Rattle.image.specs.Numbers.{comparisonBits, orderBits, bit, bitsAt, byteAt, halfAt, isOnAt, comparisonOf, orderOf}
 
 -- ---- registers to bits
+-- registers by their parts
+abbrev pub registers : Core → Download → List ℕ → List ℕ → List ℤ → List ℕ → List ℤ → Registers
+registers c d o i a e v =
+    record { core = c; download = d; outputs = o; digital = i; analog = a; entries = e; values = v }
+
 -- places 0 to 15: accumulator, X, last comparison; ETO EAL EDV EPO; program address, running; wait: armed, count, timed; download
 -- mode, write address; order, velocity
 abbrev pub coreBits : Core → Download → List ℕ

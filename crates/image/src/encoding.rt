@@ -149,6 +149,28 @@ fn put_values(image: &mut [i32; 137], values: &[i32; 103])
     }
 }
 
+// The image that stands for registers, by their parts.
+pub fn encode_parts(
+    image: &mut [i32; 137],
+    core: Core,
+    download: Download,
+    outputs: &[u8; 4],
+    digital: &[u8; 2],
+    analog: &[i32; 3],
+    entries: &[u16; 8],
+    values: &[i32; 103],
+)
+    ensures { λ _. ⌜ now (image .exit) ≡ sets (now (image .entry)) 0 (spec.encoded (spec.registers core download (now (outputs .entry)) (now (digital .entry)) (now (analog .entry)) (now (entries .entry)) (now (values .entry)))) ⌝ }
+{
+    let first = core_bits(core, download);
+    put_bits(image, 0, &first);
+    let pins = pin_bits(outputs, digital, analog);
+    put_bits(image, 16, &pins);
+    let stack = stack_bits(core.depth, entries);
+    put_bits(image, 25, &stack);
+    put_values(image, values);
+}
+
 // The image that stands for registers.
 pub fn encode(registers: Registers, image: &mut [i32; 137])
     ensures { λ _. ⌜ now (image .exit) ≡ sets (now (image .entry)) 0 (spec.encoded registers) ⌝ }
@@ -158,12 +180,14 @@ pub fn encode(registers: Registers, image: &mut [i32; 137])
     let analog = registers.analog;
     let entries = registers.entries;
     let values = registers.values;
-    let core = registers.core;
-    let first = core_bits(core, registers.download);
-    put_bits(image, 0, &first);
-    let pins = pin_bits(&outputs, &digital, &analog);
-    put_bits(image, 16, &pins);
-    let stack = stack_bits(core.depth, &entries);
-    put_bits(image, 25, &stack);
-    put_values(image, &values);
+    encode_parts(
+        image,
+        registers.core,
+        registers.download,
+        &outputs,
+        &digital,
+        &analog,
+        &entries,
+        &values,
+    );
 }

@@ -23,6 +23,7 @@ pub use decoding::outputs_of;
 pub use decoding::values_of;
 pub use decoding::wait_of;
 pub use encoding::encode;
+pub use encoding::encode_parts;
 use number::number_at;
 
 // The highest bits that the register at a place has room for; the comparison, at 2, has a test of its

@@ -1,1 +1,2 @@
 pub mod Datagram
+pub mod Command

@@ -1,14 +1,16 @@
 -- A command over an image, from what each part of the work left. Assumes nothing.
 use Prim.Native.Nat.{ℕ}
-use mathlib.Core.Path.{_≡_, refl, sym, ap}
-use mathlib.Core.Bool.{Bool, false}
+use mathlib.Core.Path.{_≡_, refl, sym, ap, subst, _∙_}
+use mathlib.Core.Bool.{Bool, true, false}
 use mathlib.Core.List.{List}
-use lib.Dec.{leb}
+use lib.Dec.{T, leb}
 use lib.IntN.{ℤ, pos}
 use lib.Seq.{sets}
 use Rattle.words.specs.Word.{pick, word}
+use Rattle.words.proofs.Bools.{picked, either}
 use Rattle.wire.specs.declared.Command.{Command}
-use Rattle.status.specs.Status.{numberOf}
+use Rattle.status.specs.Status.{numberOf, isDone}
+use Rattle.judge.specs.Judge.{judged, isFlow, isReading}
 use Rattle.status.specs.declared.Status.the-variants.{Checksum}
 use Rattle.registers.specs.declared.Core.{Core}
 use Rattle.registers.specs.declared.Download.{Download}
@@ -37,6 +39,33 @@ module _ (l : List ℤ) (c : Command) (m : List ℕ) where
       → record { image = image; cells = d .store; status = d .status; value = d .value } ≡ changedBy l (obeying.direct c (decoded l) m)
   unfolding obeying.direct decoded
   direct-left e f g h i j k x y = rw (y, x, e, f, g, h, i, j, k) refl
+
+  -- "value read": nothing else changes
+  Leaves : Core → List ℤ → List ℕ → Direct → Type 0
+  Leaves core values outputs d = (d .core ≡ core) × ((d .values ≡ values) × ((d .outputs ≡ outputs) × (d .store ≡ m)))
+
+  reading-leaves :
+      (core : Core) (values : List ℤ) (outputs digital : List ℕ) (analog : List ℤ) → isReading (c .number) ≡ true
+      → Leaves core values outputs (directed c core values outputs digital analog m)
+  unfolding directed Leaves
+  reading-leaves core values outputs digital analog e =
+      picked (Leaves core values outputs) (isFlow (c .number)) _ _ (λ _. (refl, (refl, (refl, refl))))
+      (either (Leaves core values outputs) (isDone (judged c)) _ _
+      (λ _. either (Leaves core values outputs) (isReading (c .number)) _ _ (λ _. (refl, (refl, (refl, refl)))) (λ f. absurd (subst T (sym e ∙ f) tt)))
+      (λ _. (refl, (refl, (refl, refl)))))
+
+  pub read-left :
+      Stands l → isReading (c .number) ≡ true
+      → {core : Core} {values : List ℤ} {outputs digital : List ℕ} {analog : List ℤ} {d : Direct}
+      → core ≡ coreOf l → values ≡ valuesOf l 34 → outputs ≡ outputsOf l → digital ≡ digitalOf l → analog ≡ analogOf l
+      → d ≡ directed c core values outputs digital analog m
+      → record { image = l; cells = d .store; status = d .status; value = d .value } ≡ changedBy l (obeying.direct c (decoded l) m)
+  unfolding decoded Leaves
+  read-left s r {core} {values} {outputs} {digital} {analog} {d} e f g h i x =
+      let k = reading-leaves (coreOf l) (valuesOf l 34) (outputsOf l) (digitalOf l) (analogOf l) r in
+      let y : d ≡ directed c (coreOf l) (valuesOf l 34) (outputsOf l) (digitalOf l) (analogOf l) m = x ∙ (rw (e, f, g, h, i) refl) in
+      let u : registers (d .core) (downloadOf l) (d .outputs) digital analog (entriesOf l) (d .values) ≡ decoded l = rw (h, i, y, k .0, k .1 .0, k .1 .1 .0) refl in
+      direct-left e f g h i refl refl x (sym (stays l m m m s) ∙ ap (λ (a : Registers). sets l 0 (encoded a)) (sym u))
 
   outcome-of :
       (r : Registers) (p : List ℕ) {x : Changed}

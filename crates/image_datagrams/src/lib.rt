@@ -52,8 +52,9 @@ fn addresses_of(image: &[i32; 137]) -> Addresses
     }
 }
 
-// A command of direct mode.
+// A command of direct mode. One that only reads leaves the image as it is.
 fn direct(image: &mut [i32; 137], cells: &mut [u8], c: Command) -> Obeyed
+    requires { ⌜ spec.Stands (now image) ⌝ }
     ensures { λ r. ⌜ left.changed r (now (image .exit)) (now (cells .exit)) ≡ left.changedBy (now (image .entry)) (obeying.direct c (decoded (now (image .entry))) (now (cells .entry))) ⌝ }
 {
     let core = image::core_of(image);
@@ -62,18 +63,29 @@ fn direct(image: &mut [i32; 137], cells: &mut [u8], c: Command) -> Obeyed
     let digital = image::digital_of(image);
     let analog = image::analog_of(image);
     let directed = directing::direct(c, core, &mut values, &mut outputs, &digital, &analog, cells);
+    let status = directed.status;
+    let value = directed.value;
+    let obeyed = Obeyed {
+        status: status,
+        value: value,
+    };
+    if judge::is_reading(c.number) {
+        return obeyed;
+    }
     let entries = image::entries_of(image);
     let download = image::download_of(image);
     let after = directed.core;
     image::encode_parts(
-        image, after, download, &outputs, &digital, &analog, &entries, &values,
+        image,
+        after,
+        download,
+        &outputs,
+        &digital,
+        &analog,
+        &entries,
+        &values,
     );
-    let status = directed.status;
-    let value = directed.value;
-    Obeyed {
-        status: status,
-        value: value,
-    }
+    obeyed
 }
 
 // A control command, or one to be stored.
@@ -93,6 +105,7 @@ fn whole(image: &mut [i32; 137], program: &mut [u8], cells: &mut [u8], c: Comman
 
 // A command, whatever its frame was.
 fn obey(image: &mut [i32; 137], program: &mut [u8], cells: &mut [u8], c: Command) -> Obeyed
+    requires { ⌜ spec.Stands (now image) ⌝ }
     ensures { λ r. ⌜ left.after r (now (image .exit)) (now (program .exit)) (now (cells .exit)) ≡ left.afterOutcome (now (image .entry)) (obeying.obeyed c (decoded (now (image .entry))) (now (program .entry)) (now (cells .entry))) ⌝ }
 {
     if 128 <= c.number {
@@ -113,6 +126,7 @@ fn answer(
     reply: &mut [u8],
     c: Command,
 ) -> u8
+    requires { ⌜ spec.Stands (now image) ⌝ }
     ensures { λ r. ⌜ spec.left r (now (image .exit)) (now (program .exit)) (now (cells .exit)) (now (reply .exit)) ≡ spec.leftBy (now (image .entry)) (spec.obeyedBy c (now (image .entry)) (now (program .entry)) (now (cells .entry)) (now (reply .entry))) ⌝ }
 {
     let from = addresses_of(image);

@@ -96,8 +96,8 @@ unfolding valuesInRange parameters axis globals rweRows rwRows rRows
 values-behind l =
     below-same (allowedAt parameters (drop 34 l)) (allowedAt parameters (valuesOf l 34)) 47
     (λ i h. let f : ℕ → ℤ = λ j. getD l (34 + j) (pos 0) in
-      let e = getD-drop 34 l i (pos 0) ∙ sym (at-tabulate f 0 103 i (pos 0) (omega arith) ∙ ap f (zero-add i)) in
-      rw e)
+    let e = getD-drop 34 l i (pos 0) ∙ sym (at-tabulate f 0 103 i (pos 0) (omega arith) ∙ ap f (zero-add i)) in
+    rw e)
 
 module _ (l : List ℤ) (fits : (i : ℕ) → SFits w32 (getD l i (pos 0))) where
   -- from the places
@@ -202,52 +202,108 @@ module _ (l : List ℤ) (fits : (i : ℕ) → SFits w32 (getD l i (pos 0))) wher
         let q = each _ _ (p .0) in
         let o = every-true bitInRange (outputsOf l) (q .0) in
         let i = every-true bitInRange (digitalOf l) (q .1) in
-        let m = every-true (λ z. order.inRange (pos 0) (pos 65535) z) (analogOf l) (p .1) in
-        (of-true (comparisonInRange l) (scalars l) (there 2 (omega arith))
-            (byte-down (bitsAt l 3) 1 (there 3 (omega arith)) (f .0),
-            (byte-down (bitsAt l 4) 1 (there 4 (omega arith)) (f .1 .0),
-            (byte-down (bitsAt l 5) 1 (there 5 (omega arith)) (f .1 .1 .0),
-            (byte-down (bitsAt l 6) 1 (there 6 (omega arith)) (f .1 .1 .1 .0),
-            (half-down (bitsAt l 7) 1024 (there 7 (omega arith)) (d .0),
-            (there 8 (omega arith),
-            (there 9 (omega arith),
-            (there 11 (omega arith),
-            (there 12 (omega arith),
-            (half-down (bitsAt l 13) 1024 (there 13 (omega arith)) (b .1),
-            (there 14 (omega arith),
-            tt))))))))))),
-        (of-true (upTo l 16 1) (pins l) (byte-down (bitsAt l 16) 1 (there 16 (omega arith)) (o .0))
-            (byte-down (bitsAt l 17) 1 (there 17 (omega arith)) (o .1 .0),
-            (byte-down (bitsAt l 18) 1 (there 18 (omega arith)) (o .1 .1 .0),
-            (byte-down (bitsAt l 19) 1 (there 19 (omega arith)) (o .1 .1 .1 .0),
-            (byte-down (bitsAt l 20) 1 (there 20 (omega arith)) (i .0),
-            (byte-down (bitsAt l 21) 1 (there 21 (omega arith)) (i .1 .0),
-            (m .0,
-            (m .1 .0,
-            (m .1 .1 .0,
-            tt)))))))),
-        (of-true (upTo l 25 8) (entries l) (byte-down (bitsAt l 25) 8 (there 25 (omega arith)) (d .1))
-            (half-down (bitsAt l 26) 1024 (there 26 (omega arith)) (n .0),
-            (half-down (bitsAt l 27) 1024 (there 27 (omega arith)) (n .1 .0),
-            (half-down (bitsAt l 28) 1024 (there 28 (omega arith)) (n .1 .1 .0),
-            (half-down (bitsAt l 29) 1024 (there 29 (omega arith)) (n .1 .1 .1 .0),
-            (half-down (bitsAt l 30) 1024 (there 30 (omega arith)) (n .1 .1 .1 .1 .0),
-            (half-down (bitsAt l 31) 1024 (there 31 (omega arith)) (n .1 .1 .1 .1 .1 .0),
-            (half-down (bitsAt l 32) 1024 (there 32 (omega arith)) (n .1 .1 .1 .1 .1 .1 .0),
-            (half-down (bitsAt l 33) 1024 (there 33 (omega arith)) (n .1 .1 .1 .1 .1 .1 .1 .0),
-            tt)))))))),
-        values-behind l ∙ x .1)))
+        let m = every-true (λ z. order.inRange (pos 0) (pos 65535) z) (analogOf l) (p .1) in (
+          of-true (comparisonInRange l) (scalars l) (there 2 (omega arith)) (
+            byte-down (bitsAt l 3) 1 (there 3 (omega arith)) (f .0),
+            (
+              byte-down (bitsAt l 4) 1 (there 4 (omega arith)) (f .1 .0),
+              (
+                byte-down (bitsAt l 5) 1 (there 5 (omega arith)) (f .1 .1 .0),
+                (
+                  byte-down (bitsAt l 6) 1 (there 6 (omega arith)) (f .1 .1 .1 .0),
+                  (
+                    half-down (bitsAt l 7) 1024 (there 7 (omega arith)) (d .0),
+                    (
+                      there 8 (omega arith),
+                      (
+                        there 9 (omega arith),
+                        (
+                          there 11 (omega arith),
+                          (
+                            there 12 (omega arith),
+                            (
+                              half-down (bitsAt l 13) 1024 (there 13 (omega arith)) (b .1),
+                              (
+                                there 14 (omega arith),
+                                tt,
+                              ),
+                            ),
+                          ),
+                        ),
+                      ),
+                    ),
+                  ),
+                ),
+              ),
+            ),
+          ),
+          (
+            of-true (upTo l 16 1) (pins l) (byte-down (bitsAt l 16) 1 (there 16 (omega arith)) (o .0)) (
+              byte-down (bitsAt l 17) 1 (there 17 (omega arith)) (o .1 .0),
+              (
+                byte-down (bitsAt l 18) 1 (there 18 (omega arith)) (o .1 .1 .0),
+                (
+                  byte-down (bitsAt l 19) 1 (there 19 (omega arith)) (o .1 .1 .1 .0),
+                  (
+                    byte-down (bitsAt l 20) 1 (there 20 (omega arith)) (i .0),
+                    (
+                      byte-down (bitsAt l 21) 1 (there 21 (omega arith)) (i .1 .0),
+                      (
+                        m .0,
+                        (
+                          m .1 .0,
+                          (
+                            m .1 .1 .0,
+                            tt,
+                          ),
+                        ),
+                      ),
+                    ),
+                  ),
+                ),
+              ),
+            ),
+            (
+              of-true (upTo l 25 8) (entries l) (byte-down (bitsAt l 25) 8 (there 25 (omega arith)) (d .1)) (
+                half-down (bitsAt l 26) 1024 (there 26 (omega arith)) (n .0),
+                (
+                  half-down (bitsAt l 27) 1024 (there 27 (omega arith)) (n .1 .0),
+                  (
+                    half-down (bitsAt l 28) 1024 (there 28 (omega arith)) (n .1 .1 .0),
+                    (
+                      half-down (bitsAt l 29) 1024 (there 29 (omega arith)) (n .1 .1 .1 .0),
+                      (
+                        half-down (bitsAt l 30) 1024 (there 30 (omega arith)) (n .1 .1 .1 .1 .0),
+                        (
+                          half-down (bitsAt l 31) 1024 (there 31 (omega arith)) (n .1 .1 .1 .1 .1 .0),
+                          (
+                            half-down (bitsAt l 32) 1024 (there 32 (omega arith)) (n .1 .1 .1 .1 .1 .1 .0),
+                            (
+                              half-down (bitsAt l 33) 1024 (there 33 (omega arith)) (n .1 .1 .1 .1 .1 .1 .1 .0),
+                              tt,
+                            ),
+                          ),
+                        ),
+                      ),
+                    ),
+                  ),
+                ),
+              ),
+              values-behind l ∙ x .1,
+            ),
+          ),
+        )
 
   pub same : (((scalarsInRange l && pinsInRange l) && stackInRange l) && valuesInRange parameters (drop 34 l)) ≡ inRange l
   unfolding inRange
   same =
       same-bool _ _
       (λ e.
-        let t = each _ _ e in
-        let u = each _ _ (t .0) in
-        let v = each _ _ (u .0) in
-        simp (image-of (v .0) (v .1) (u .1), registers-of (v .0) (v .1) (u .1) (t .1)))
+      let t = each _ _ e in
+      let u = each _ _ (t .0) in
+      let v = each _ _ (u .0) in
+      simp (image-of (v .0) (v .1) (u .1), registers-of (v .0) (v .1) (u .1) (t .1)))
       (λ e.
-        let t = each _ _ e in
-        let u = places-of (t .0) (t .1) in
-        simp (u .0, u .1 .0, u .1 .1 .0, u .1 .1 .1))
+      let t = each _ _ e in
+      let u = places-of (t .0) (t .1) in
+      simp (u .0, u .1 .0, u .1 .1 .0, u .1 .1 .1))

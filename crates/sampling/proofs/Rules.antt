@@ -14,11 +14,10 @@ use Rattle.values.specs.Values.{valueAt, valuesInRange}
 use Rattle.values.proofs.Rules.{set-length, set-other, set-in-range}
 use Rattle.ranges.specs.Range.{bitsInRange, eachUpTo, analogInRange}
 use Rattle.pins.specs.Pins.{inputsInRange, signalsInRange, isOn, digitalOf, analogOf}
-use Rattle.sampling.specs.Sample.{settings, placeOf, settingsInRange, readingsInRange, settled, sampleInRange}
+use Rattle.sampling.specs.Sample.{settings, placeOf, settingInRange, settingsInRange, readingsInRange, settled, sampleInRange}
 use Rattle.sampling.specs.Laws.{Laws}
 use Rattle.pins.specs.declared.Inputs.{Inputs}
 use Rattle.sampling.specs.declared.Sample.{Sample}
-use Rattle.sampling.proofs.Turns.{good}
 
 module _ (zs : List ℤ) where
   pub values-length : (n : ℕ) (vs : List ℤ) → length (settled zs n vs) ≡ length vs
@@ -32,7 +31,7 @@ module _ (zs : List ℤ) where
   stays zero vs h g l v = v
   stays (suc n) vs h g l v =
       set-in-range (settled zs n vs) (placeOf n) (getD zs n (pos 0)) (values-length n vs ∙ l) (stays n vs (omega arith) g l v)
-      (is-true (good zs n) (below (good zs) 8 (is-T (settingsInRange zs) g) n (omega arith)))
+      (is-true (settingInRange zs n) (below (settingInRange zs) 8 (is-T (settingsInRange zs) g) n (omega arith)))
 
   -- the values that none of the first n sets
   others : (vs : List ℤ) (p n : ℕ) → ((i : ℕ) → i < n → p ≡ placeOf i → ⊥) → valueAt (settled zs n vs) p ≡ valueAt vs p

@@ -35,8 +35,11 @@ abbrev pub placeOf : ℕ → ℕ
 placeOf i = axisPlace (getD numbers i 0)
 
 -- each is in its parameter's range
+abbrev pub settingInRange : List ℤ → ℕ → Bool
+settingInRange zs i = allowed (rowAt rows (placeOf i)) (getD zs i (pos 0))
+
 unfoldable pub settingsInRange : List ℤ → Bool
-settingsInRange zs = allBelow (λ i. allowed (rowAt rows (placeOf i)) (getD zs i (pos 0))) 8
+settingsInRange zs = allBelow (settingInRange zs) 8
 
 abbrev pub readingsInRange : Readings → Bool
 readingsInRange s = settingsInRange (settings s)

@@ -7,24 +7,18 @@ use mathlib.Core.List.{List}
 use lib.IntN.{ℤ, pos}
 use lib.ListN.{getD}
 use Rattle.words.proofs.Bools.{and-assoc, and-true}
-use Rattle.rows.specs.Row.{allowed}
-use Rattle.sheet.specs.Rows.{rows, rowAt}
-use Rattle.rows.specs.declared.Row.{Row}
+use Rattle.sheet.specs.Sheet.{axis}
 use Rattle.values.specs.Values.{setValue}
-use Rattle.sampling.specs.Sample.{placeOf, settingInRange, settingsInRange, settled}
+use Rattle.sampling.specs.Sample.{placeOf, settingAt, settingsInRange, settled}
 
 module _ (zs : List ℤ) where
-  -- as the code finds it
-  pub found : {b : Bool} {x : Row} (p : ℕ) (z : ℤ) (i : ℕ) → b ≡ allowed x z → x ≡ rowAt rows p → p ≡ placeOf i → z ≡ getD zs i (pos 0) → b ≡ settingInRange zs i
-  found p z i e r q f = rw (e, r, q, f)
-
-  -- all eight of them
+  -- all eight of them, as the code finds them
   pub all-found :
       {a b c d e f g h : Bool}
-      → a ≡ settingInRange zs 7 → b ≡ settingInRange zs 6 → c ≡ settingInRange zs 5 → d ≡ settingInRange zs 4 → e ≡ settingInRange zs 3
-      → f ≡ settingInRange zs 2 → g ≡ settingInRange zs 1 → h ≡ settingInRange zs 0
+      → a ≡ settingAt zs 7 41 → b ≡ settingAt zs 6 40 → c ≡ settingAt zs 5 39 → d ≡ settingAt zs 4 38 → e ≡ settingAt zs 3 37
+      → f ≡ settingAt zs 2 12 → g ≡ settingAt zs 1 9 → h ≡ settingAt zs 0 8
       → (((((((a && b) && c) && d) && e) && f) && g) && h) ≡ settingsInRange zs
-  unfolding settingsInRange
+  unfolding settingsInRange axis
   all-found p q r s t u v w = simp (p, q, r, s, t, u, v, w, and-assoc, and-true)
 
   -- one setting more

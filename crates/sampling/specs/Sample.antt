@@ -35,8 +35,11 @@ abbrev pub placeOf : ℕ → ℕ
 placeOf i = axisPlace (getD numbers i 0)
 
 -- each is in its parameter's range
+abbrev pub settingAt : List ℤ → ℕ → ℕ → Bool
+settingAt zs i place = allowed (rowAt rows place) (getD zs i (pos 0))
+
 abbrev pub settingInRange : List ℤ → ℕ → Bool
-settingInRange zs i = allowed (rowAt rows (placeOf i)) (getD zs i (pos 0))
+settingInRange zs i = settingAt zs i (placeOf i)
 
 unfoldable pub settingsInRange : List ℤ → Bool
 settingsInRange zs = allBelow (settingInRange zs) 8

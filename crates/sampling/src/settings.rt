@@ -3,7 +3,7 @@ ghost use Prim.Native.Nat.{_<_};
 ghost use mathlib.Core.Path.{_≡_};
 ghost use Rattle.sampling.specs.Sample.{
   settings,
-  settingInRange,
+  settingAt,
   settingsInRange,
   readingsInRange,
   settled,
@@ -40,28 +40,28 @@ impl Readings {
     }
 }
 
-// Whether one of them is.
-fn setting_in_range(settings: &[i32; 8], i: usize) -> bool
+// Whether one of them is, by its parameter's place among the working values.
+fn setting_in_range(settings: &[i32; 8], i: usize, place: usize) -> bool
     requires { ⌜ i < 8 ⌝ }
-    ensures { λ r. ⌜ r ≡ settingInRange (now (settings .entry)) i ⌝ }
+    ensures { λ r. ⌜ r ≡ settingAt (now (settings .entry)) i place ⌝ }
 {
     let v = settings[i];
-    let row = sheet::row_at(places::axis_place(NUMBERS[i]));
-    rows::allowed(row, Word { v: v })
+    rows::allowed(sheet::row_at(place), Word { v: v })
 }
 
-// All eight are looked at by name, with no end in the middle: so the compiler knows each row.
+// All eight are looked at, with no end in the middle, and each place is named: so the compiler knows
+// each row.
 fn settings_in_range(settings: &[i32; 8]) -> bool
     ensures { λ r. ⌜ r ≡ settingsInRange (now (settings .entry)) ⌝ }
 {
-    setting_in_range(settings, 7)
-        & setting_in_range(settings, 6)
-        & setting_in_range(settings, 5)
-        & setting_in_range(settings, 4)
-        & setting_in_range(settings, 3)
-        & setting_in_range(settings, 2)
-        & setting_in_range(settings, 1)
-        & setting_in_range(settings, 0)
+    setting_in_range(settings, 7, 41)
+        & setting_in_range(settings, 6, 40)
+        & setting_in_range(settings, 5, 39)
+        & setting_in_range(settings, 4, 38)
+        & setting_in_range(settings, 3, 37)
+        & setting_in_range(settings, 2, 12)
+        & setting_in_range(settings, 1, 9)
+        & setting_in_range(settings, 0, 8)
 }
 
 // Sets the parameters among the working values.

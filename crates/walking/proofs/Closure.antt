@@ -1,204 +1,196 @@
--- The walk over any graph on the numbers below a size: what one mark keeps, what a look keeps, and what holds at the end. Assumes
--- nothing.
-use Prim.Native.Nat.{ℕ, zero, suc, _+_, _<_, _≤_}
+-- The walk over any graph on the points: what each of its acts keeps. Assumes nothing.
+use Prim.Native.Nat.{ℕ, _+_, _-_, _*_, _%_, _<_, _≤_}
 use native.Mathlib.Omega.{arith}
-use native.Mathlib.Decide.{decLt, ℕ-discrete}
 use mathlib.Core.Path.{_≡_, refl, sym, ap, _∙_, subst}
 use mathlib.Core.Logic.{_⊎_, inl, inr, ⊎-elim}
-use mathlib.Core.Bool.{Bool, true, false}
-use mathlib.Core.List.{List, [], _∷_}
-use lib.ListN.{length, getD, set, replicate, length-set, List·getD-eq-default}
+use mathlib.Core.List.{List}
+use lib.ListN.{length, getD, set}
 use lib.Seq.{getD-set-same, getD-set-other}
-use lib.Dec.{eqb}
-use borrow.Author.Tests.{eqb-true, eqb-false}
-use Rattle.words.specs.Word.{pick}
-use Rattle.walking.specs.Walk.{Walk, walk, marked, markedAll, tally, Room}
+use Rattle.status.specs.declared.Status.{Status}
+use Rattle.points.specs.Points.{point}
+use Rattle.points.specs.Reach.{Leads, Reach}
+use Rattle.points.specs.declared.Point.{Point}
+use Rattle.points.specs.declared.Way.{Way}
+use Rattle.points.specs.declared.Way.the-variants.{Bad}
+use Rattle.walking.specs.Walk.{Has, Walk, walk, Held, held, maskAt, depthsAt, joined, reached, top, taken, gone, Room}
+use Rattle.walking.specs.declared.Found.{Found}
+use Rattle.walking.proofs.Depths.{has-none, or-left, or-right, or-cases}
+use Rattle.walking.proofs.Masks.{set-cases, inside, joined-low, more, reached-cases, reached-room, room-for, on-hand-room, gone-cases, taken-cases, top-filled, top-in, off-room}
 
--- j is an element
-abbrev pub In : ℕ → List ℕ → Type 0
-In j [] = ⊥
-In j (x ∷ xs) = (j ≡ x) ⊎ In j xs
+-- the walk has reached the point
+abbrev pub At : Walk → ℕ → ℕ → Type 0
+At x b d = Has (depthsAt x b) d
 
--- ---- tallies
-pub tally-set : (l : List ℕ) (i : ℕ) → i < length l → getD l i 0 ≡ 0 → tally (set l i 1) ≡ tally l + 1
-unfolding tally
-tally-set [] i h e = absurd (omega arith)
-tally-set (x ∷ xs) zero h e = omega arith
-tally-set (x ∷ xs) (suc i) h e = let r : tally (set xs i 1) ≡ tally xs + 1 = tally-set xs i (omega arith) e in omega arith
+abbrev pub Grown : Walk → Walk → Type 0
+Grown x y = (b d : ℕ) → At x b d → At y b d
 
-pub tally-le : (l : List ℕ) → ((i : ℕ) → getD l i 0 ≤ 1) → tally l ≤ length l
-unfolding tally
-tally-le [] h = omega arith
-tally-le (x ∷ xs) h = let r : tally xs ≤ length xs = tally-le xs (λ i. h (suc i)) in omega (arith, h 0)
+-- the points that it leads to are reached too, and what was found is not after it if it is bad
+pub record Closed (way : Point → Way) (f : Found) (x : Walk) (b d : ℕ) : Type 0 where
+  pub ends : (q : Point) → Leads (way (point b d)) q → At x (q .address) (q .depth)
+  pub low : (t : Status) → way (point b d) ≡ Bad t → f .number ≤ b * 9 + d
 
-pub tally-none : (n : ℕ) → tally (replicate n 0) ≡ 0
-unfolding tally
-tally-none zero = refl
-tally-none (suc n) = omega (arith, tally-none n)
+-- what holds between the acts: the points for which E holds are still to be closed
+pub record Kept (way : Point → Way) (f : Found) (E : ℕ → ℕ → Type 0) (x : Walk) : Type 0 where
+  pub room : Room x
+  pub stands : (b : ℕ) → 512 ≤ maskAt x b → (k : ℕ) × (k < x .n) × (getD (x .stack) k 0 ≡ b)
+  pub sound : (b d : ℕ) → At x b d → Reach way (point b d)
+  pub done : (b d : ℕ) → At x b d → (512 ≤ maskAt x b) ⊎ (E b d ⊎ Closed way f x b d)
 
-pub in-range : (l : List ℕ) (i : ℕ) → getD l i 0 ≡ 1 → i < length l
-in-range l i e = elim (decLt i (length l)) [ yes h ↦ h | no h ↦ absurd (omega (arith, List·getD-eq-default l 0 {n = i} (omega arith))) ]
+-- .. and those in hand
+abbrev pub With : (ℕ → ℕ → Type 0) → ℕ → ℕ → ℕ → ℕ → Type 0
+With E a m b d = E b d ⊎ ((b ≡ a) × Has m d)
 
--- an element after a store
-pub set-cases : (l : List ℕ) (i j a : ℕ) (P : ℕ → Type 0) → i < length l → (j ≡ i → P a) → ((j ≡ i → ⊥) → P (getD l j 0)) → P (getD (set l i a) j 0)
-set-cases l i j a P h f g =
-    elim (ℕ-discrete j i) [ yes e ↦ rw (e, getD-set-same l i a 0 h) (f e) | no e ↦ rw (getD-set-other l i j a 0 e) (g e) ]
+pub record Holds (way : Point → Way) (f : Found) (E : ℕ → ℕ → Type 0) (y : Held) : Type 0 where
+  pub kept : Kept way f (With E (y .address) (y .depths)) (y .walk)
+  pub here : (d : ℕ) → Has (y .depths) d → At (y .walk) (y .address) d
+  pub small : y .depths < 512
+  pub inside : y .address ≤ 1024
+  pub idle : y .depths ≡ 0 → y .walk .n ≡ 0
 
--- what holds of the state between two marks: R is what is to be shown of each marked place
-pub record Base (N : ℕ) (R : ℕ → Type 0) (x : Walk) : Type 0 where
-  pub room : Room N x
-  pub slots : length (x .queue) ≡ N
-  pub sound : (i : ℕ) → getD (x .marks) i 0 ≡ 1 → R i
-  pub held : (i : ℕ) → getD (x .marks) i 0 ≡ 1 → (k : ℕ) × (k < x .n) × (getD (x .queue) k 0 ≡ i)
-  pub marked : (k : ℕ) → k < x .n → getD (x .marks) (getD (x .queue) k 0) 0 ≡ 1
+module _ (way : Point → Way) where
+  pub closed-on : {f g : Found} {x y : Walk} {b d : ℕ} → g .number ≤ f .number → Grown x y → Closed way f x b d → Closed way g y b d
+  closed-on l g c = record { ends = λ q e. g _ _ (c .ends q e); low = λ t e. let k = c .low t e in omega arith }
 
--- nothing is lost from x to y
-pub record Grown (x y : Walk) : Type 0 where
-  pub keeps : (i : ℕ) → getD (x .marks) i 0 ≡ 1 → getD (y .marks) i 0 ≡ 1
-  pub same : (k : ℕ) → k < x .n → getD (y .queue) k 0 ≡ getD (x .queue) k 0
-  pub more : x .n ≤ y .n
+  module _ (f : Found) (E : ℕ → ℕ → Type 0) where
+    -- depths stored at an address, none lost
+    module _ (x : Walk) (a v : ℕ) (i : Kept way f E x) (h : a ≤ 1024) (up : (d : ℕ) → At x a d → Has (v % 512) d) (s : List ℕ) (n : ℕ) where
+      in-masks : a < length (x .masks)
+      in-masks = omega (arith, i .room .masks)
 
-pub grown-refl : (x : Walk) → Grown x x
-grown-refl x = record { keeps = λ i h. h; same = λ k h. refl; more = omega arith }
+      pub store-grown : Grown x (walk (set (x .masks) a v) s n)
+      store-grown b d = set-cases (x .masks) a b v (λ u. At x b d → Has (u % 512) d) in-masks (λ e k. up d (subst (λ c. At x c d) e k)) (λ _ k. k)
 
-pub grown-trans : {x y z : Walk} → Grown x y → Grown y z → Grown x z
-grown-trans g h =
-    record {
-      keeps = λ i e. h .keeps i (g .keeps i e);
-      same = λ k l. h .same k (omega (arith, g .more)) ∙ g .same k l;
-      more = omega (arith, g .more, h .more);
-    }
+      pub stored-kept : (F : ℕ → ℕ → Type 0) → Room (walk (set (x .masks) a v) s n)
+          → ((b : ℕ) → 512 ≤ getD (set (x .masks) a v) b 0 → (k : ℕ) × (k < n) × (getD s k 0 ≡ b))
+          → ((d : ℕ) → Has (v % 512) d → Reach way (point a d)) → ((d : ℕ) → Has (v % 512) d → (512 ≤ v) ⊎ F a d) → ((b d : ℕ) → E b d → F b d)
+          → Kept way f F (walk (set (x .masks) a v) s n)
+      stored-kept F r st new at on =
+          record {
+            room = r;
+            stands = st;
+            sound = λ b d. set-cases (x .masks) a b v (λ u. Has (u % 512) d → Reach way (point b d)) in-masks
+                (λ e k. subst (λ c. Reach way (point c d)) (sym e) (new d k)) (λ _ k. i .sound b d k);
+            done = λ b d. set-cases (x .masks) a b v
+                (λ u. Has (u % 512) d → (512 ≤ u) ⊎ (F b d ⊎ Closed way f (walk (set (x .masks) a v) s n) b d)) in-masks
+                (λ e k. ⊎-elim inl (λ w. inr (inl (subst (λ c. F c d) (sym e) w))) (at d k))
+                (λ _ k. ⊎-elim inl (λ w. inr (⊎-elim (λ z. inl (on b d z)) (λ c. inr (closed-on (omega arith) store-grown c)) w)) (i .done b d k));
+          }
 
--- there is room for what is not marked
-pub room-for : (N : ℕ) (x : Walk) (i : ℕ) → Room N x → i < N → getD (x .marks) i 0 ≡ 0 → x .n < N
-room-for N x i r h e =
-    let small : (j : ℕ) → getD (set (x .marks) i 1) j 0 ≤ 1 =
-    λ j. set-cases (x .marks) i j 1 (λ v. v ≤ 1) (omega (arith, r .marks)) (λ q. omega arith) (λ q. r .small j) in
-    omega (arith, r .marks, r .counted, tally-set (x .marks) i (omega (arith, r .marks)) e, tally-le (set (x .marks) i 1) small, length-set (x .marks) i 1)
+    module _ (x : Walk) (a m : ℕ) (i : Kept way f E x) (h : a ≤ 1024) (l : m < 512) (new : (d : ℕ) → Has m d → Reach way (point a d)) where
+      -- depths that are joined were reached before or are now
+      joined-sound : (d : ℕ) → Has (joined x a m) d → Reach way (point a d)
+      joined-sound d k = ⊎-elim (i .sound a d) (new d) (or-cases (depthsAt x a) m d k)
 
-abbrev markedOn : Bool → Walk → ℕ → Walk
-markedOn b x i = pick b (walk (set (x .marks) i 1) (set (x .queue) (x .n) i) (x .n + 1)) x
+      low-part : (joined x a m + 512) % 512 ≡ joined x a m
+      low-part = let w = joined-low x a m (i .room) h l in omega arith
 
-marked-on-room : (N : ℕ) (x : Walk) (i : ℕ) (b : Bool) → eqb (getD (x .marks) i 0) 0 ≡ b → Room N x → i < N → Room N (markedOn b x i)
-marked-on-room N x i false t r h = r
-marked-on-room N x i true t r h =
-    let e : getD (x .marks) i 0 ≡ 0 = eqb-true _ _ t in
-    record {
-      marks = length-set (x .marks) i 1 ∙ r .marks;
-      small = λ j. set-cases (x .marks) i j 1 (λ v. v ≤ 1) (omega (arith, r .marks)) (λ q. omega arith) (λ q. r .small j);
-      counted = omega (arith, r .counted, tally-set (x .marks) i (omega (arith, r .marks)) e);
-    }
+      same-part : joined x a m % 512 ≡ joined x a m
+      same-part = let w = joined-low x a m (i .room) h l in omega arith
 
-pub marked-room : (N : ℕ) (x : Walk) (i : ℕ) → Room N x → i < N → Room N (marked x i)
-unfolding marked
-marked-room N x i r h = marked-on-room N x i _ refl r h
+      up-low : (d : ℕ) → At x a d → Has ((joined x a m + 512) % 512) d
+      up-low d k = subst (λ u. Has u d) (sym low-part) (or-left (depthsAt x a) m d k)
 
-pub room-after : (N : ℕ) (x : Walk) {y : Walk} (i : ℕ) → y ≡ marked x i → Room N x → i < N → Room N y
-room-after N x i e r h = subst (Room N) (sym e) (marked-room N x i r h)
+      up-same : (d : ℕ) → At x a d → Has (joined x a m % 512) d
+      up-same d k = subst (λ u. Has u d) (sym same-part) (or-left (depthsAt x a) m d k)
 
--- two marks, one after the other
-pub then : (x y : Walk) {z : Walk} (i j : ℕ) → y ≡ marked x i → z ≡ marked y j → z ≡ marked (marked x i) j
-then x y i j e f = f ∙ ap (λ v. marked v j) e
+      -- what a store of the joined depths has there
+      stored-at : (v : ℕ) → v % 512 ≡ joined x a m → (d : ℕ) → Has m d → Has (getD (set (x .masks) a v) a 0 % 512) d
+      stored-at v e d k =
+          rw (getD-set-same (x .masks) a v 0 (omega (arith, i .room .masks))) (subst (λ u. Has u d) (sym e) (or-right (depthsAt x a) m d k))
 
-module _ (N : ℕ) (R : ℕ → Type 0) where
-  mark-on : (x : Walk) (i : ℕ) (b : Bool) → eqb (getD (x .marks) i 0) 0 ≡ b → Base N R x → i < N → R i
-      → Base N R (markedOn b x i) × Grown x (markedOn b x i) × (getD (markedOn b x i .marks) i 0 ≡ 1)
-  mark-on x i false t s h r =
-      let ne : getD (x .marks) i 0 ≡ 0 → ⊥ = eqb-false _ _ t in
-      (s, grown-refl x, omega (arith, s .room .small i))
-  mark-on x i true t s h r =
-      let e : getD (x .marks) i 0 ≡ 0 = eqb-true _ _ t in
-      let l : i < length (x .marks) = omega (arith, s .room .marks) in
-      let lt : x .n < N = room-for N x i (s .room) h e in
-      let lq : x .n < length (x .queue) = omega (arith, s .slots) in
-      let here : getD (set (x .marks) i 1) i 0 ≡ 1 = getD-set-same (x .marks) i 1 0 l in
-      let keeps : (j : ℕ) → getD (x .marks) j 0 ≡ 1 → getD (set (x .marks) i 1) j 0 ≡ 1 =
-      λ j m. set-cases (x .marks) i j 1 (λ v. v ≡ 1) l (λ q. refl) (λ q. m) in
-      let same : (k : ℕ) → k < x .n → getD (set (x .queue) (x .n) i) k 0 ≡ getD (x .queue) k 0 =
-      λ k m. getD-set-other (x .queue) (x .n) k i 0 (omega arith) in
-      let last : getD (set (x .queue) (x .n) i) (x .n) 0 ≡ i = getD-set-same (x .queue) (x .n) i 0 lq in (
+      abbrev pub Reached : Walk → Type 0
+      Reached y = Kept way f E y × Grown x y × ((d : ℕ) → Has m d → At y a d)
+
+      pub reached-kept : Reached (reached x a m)
+      reached-kept =
+          let v = joined x a m + 512 in
+          let r = reached-room x a m (i .room) h l in
+          reached-cases x a m (λ y. Room y → Reached y)
+          (λ e _. (i, λ b d k. k, λ d k. subst (λ u. Has u d) e (or-right (depthsAt x a) m d k)))
+          (λ e u q. (
+            stored-kept x a v i h up-low (set (x .stack) (x .n) a) (x .n + 1) E q
+                (λ b. set-cases (x .masks) a b v (λ u. 512 ≤ u → (k : ℕ) × (k < x .n + 1) × (getD (set (x .stack) (x .n) a) k 0 ≡ b)) (omega (arith, i .room .masks))
+                (λ g _. (x .n, omega arith, getD-set-same (x .stack) (x .n) a 0 (omega (arith, i .room .slots, room-for x a (i .room) h u)) ∙ sym g))
+                (λ _ w. let s = i .stands b w in (s .0, omega (arith, s .1), getD-set-other (x .stack) (x .n) (s .0) a 0 (omega (arith, s .1)) ∙ s .2)))
+                (λ d k. joined-sound d (subst (λ u. Has u d) low-part k))
+                (λ d _. inl (omega arith))
+                (λ b d w. w),
+            store-grown x a v i h up-low (set (x .stack) (x .n) a) (x .n + 1),
+            stored-at v low-part,
+          ))
+          (λ e u q. (
+            stored-kept x a v i h up-low (x .stack) (x .n) E q
+                (λ b. set-cases (x .masks) a b v (λ u. 512 ≤ u → (k : ℕ) × (k < x .n) × (getD (x .stack) k 0 ≡ b)) (omega (arith, i .room .masks))
+                (λ g _. i .stands b (subst (λ c. 512 ≤ maskAt x c) (sym g) u))
+                (λ _ w. i .stands b w))
+                (λ d k. joined-sound d (subst (λ u. Has u d) low-part k))
+                (λ d _. inl (omega arith))
+                (λ b d w. w),
+            store-grown x a v i h up-low (x .stack) (x .n),
+            stored-at v low-part,
+          ))
+          r
+
+    -- an address in hand by a store of its depths v, without the 512
+    in-hand : (x : Walk) (a v n : ℕ) (i : Kept way f E x) (h : a ≤ 1024) → v < 512 → 0 < v → ((d : ℕ) → At x a d → Has (v % 512) d)
+        → Room (walk (set (x .masks) a v) (x .stack) n) → ((b : ℕ) → 512 ≤ maskAt x b → (b ≡ a → ⊥) → (k : ℕ) × (k < n) × (getD (x .stack) k 0 ≡ b))
+        → ((d : ℕ) → Has v d → Reach way (point a d)) → Holds way f E (held (walk (set (x .masks) a v) (x .stack) n) a v)
+    in-hand x a v n i h l p up r st new =
+        let e : v % 512 ≡ v = omega arith in
+        let q : a < length (x .masks) = omega (arith, i .room .masks) in
         record {
-          room = marked-on-room N x i true t (s .room) h;
-          slots = length-set (x .queue) (x .n) i ∙ s .slots;
-          sound = λ j. set-cases (x .marks) i j 1 (λ v. v ≡ 1 → R j) l (λ q m. subst R (sym q) r) (λ q m. s .sound j m);
-          held = λ j. set-cases (x .marks) i j 1 (λ v. v ≡ 1 → (k : ℕ) × (k < x .n + 1) × (getD (set (x .queue) (x .n) i) k 0 ≡ j)) l
-              (λ q m. (x .n, omega arith, last ∙ sym q))
-              (λ q m. let f = s .held j m in (f .0, omega (arith, f .1), same (f .0) (f .1) ∙ f .2));
-          marked = λ k m. elim (decLt k (x .n)) [
-            | yes y ↦ rw (same k y) (keeps _ (s .marked k y))
-            | no z ↦ let q : k ≡ x .n = omega arith in rw (q, last) here
-          ];
-        },
-        record { keeps = keeps; same = same; more = omega arith },
-        here,
-      )
+          kept = stored-kept x a v i h up (x .stack) n (With E a v) r
+              (λ b. set-cases (x .masks) a b v (λ u. 512 ≤ u → (k : ℕ) × (k < n) × (getD (x .stack) k 0 ≡ b)) q (λ _ w. absurd (omega arith)) (λ g w. st b w g))
+              (λ d k. new d (subst (λ u. Has u d) e k)) (λ d k. inr (inr (refl, subst (λ u. Has u d) e k))) (λ b d w. inl w);
+          here = λ d k. rw (getD-set-same (x .masks) a v 0 q) (subst (λ u. Has u d) (sym e) k);
+          small = l;
+          inside = h;
+          idle = λ z. absurd (omega arith);
+        }
 
-  pub marks-one : (x : Walk) (i : ℕ) → Base N R x → i < N → R i → Base N R (marked x i) × Grown x (marked x i) × (getD (marked x i .marks) i 0 ≡ 1)
-  unfolding marked
-  marks-one x i s h r = mark-on x i _ refl s h r
+    pub taken-holds : (x : Walk) → Kept way f E x → Holds way f E (taken x) × Grown x (taken x .walk)
+    taken-holds x i =
+        taken-cases x (λ y. Holds way f E y × Grown x (y .walk))
+        (λ z. (
+          record {
+            kept = record {
+              room = i .room;
+              stands = i .stands;
+              sound = i .sound;
+              done = λ b d k. ⊎-elim inl (λ w. inr (⊎-elim (λ e. inl (inl e)) inr w)) (i .done b d k);
+            };
+            here = λ d k. absurd (has-none d k);
+            small = omega arith;
+            inside = omega arith;
+            idle = λ _. z;
+          },
+          λ b d k. k,
+        ))
+        (λ p. let a = top x in
+        let v = depthsAt x a in
+        let h = top-in x (i .room) p in
+        let t = top-filled x (i .room) p in
+        let e : v % 512 ≡ v = omega arith in
+        let up : (d : ℕ) → At x a d → Has (v % 512) d = λ d k. subst (λ u. Has u d) (sym e) k in (
+          in-hand x a v (x .n - 1) i h (omega arith) t up (off-room x (i .room) p)
+              (λ b w g. let s = i .stands b w in
+              let o : s .0 ≡ x .n - 1 → ⊥ = λ j. g (sym (s .2) ∙ ap (λ k. getD (x .stack) k 0) j) in
+              (s .0, omega (arith, s .1, o), s .2))
+              (i .sound a),
+          store-grown x a v i h up (x .stack) (x .n - 1),
+        ))
 
-  pub marked-all : (x : Walk) (is : List ℕ) → Base N R x → ((j : ℕ) → In j is → (j < N) × R j)
-      → Base N R (markedAll x is) × Grown x (markedAll x is) × ((j : ℕ) → In j is → getD (markedAll x is .marks) j 0 ≡ 1)
-  marked-all x [] s h = (s, grown-refl x, λ j m. absurd m)
-  marked-all x (i ∷ is) s h =
-      let f = h i (inl refl) in
-      let a = marks-one x i s (f .0) (f .1) in
-      let b = marked-all (marked x i) is (a .0) (λ j m. h j (inr m)) in
-      (b .0, grown-trans (a .1) (b .1), λ j m. ⊎-elim (λ e. subst (λ v. getD (markedAll (marked x i) is .marks) v 0 ≡ 1) (sym e) (b .1 .keeps i (a .2))) (λ o. b .2 j o) m)
-
--- the walk: what stands in the queue before h has had its ends marked
-pub record Walked (N : ℕ) (R : ℕ → Type 0) (nexts : ℕ → List ℕ) (x : Walk) (h : ℕ) : Type 0 where
-  pub base : Base N R x
-  pub begun : getD (x .marks) 0 0 ≡ 1
-  pub within : h ≤ x .n
-  pub closed : (k : ℕ) → k < h → (j : ℕ) → In j (nexts (getD (x .queue) k 0)) → getD (x .marks) j 0 ≡ 1
-
-pub n-le : {N : ℕ} {R : ℕ → Type 0} {x : Walk} → Base N R x → x .n ≤ N
-n-le {x} b = omega (arith, b .room .marks, b .room .counted, tally-le (x .marks) (b .room .small))
-
-pub queue-in : {N : ℕ} {R : ℕ → Type 0} {x : Walk} → Base N R x → (k : ℕ) → k < x .n → getD (x .queue) k 0 < N
-queue-in {x} b k h = omega (arith, b .room .marks, in-range (x .marks) (getD (x .queue) k 0) (b .marked k h))
-
-module _ (N : ℕ) (R : ℕ → Type 0) (nexts : ℕ → List ℕ) (onward : (i j : ℕ) → i < N → R i → In j (nexts i) → (j < N) × R j) where
-  pub turn : (x : Walk) (h : ℕ) → Walked N R nexts x h → h < x .n → Walked N R nexts (markedAll x (nexts (getD (x .queue) h 0))) (h + 1)
-  turn x h w l =
-      let i = getD (x .queue) h 0 in
-      let a = marked-all N R x (nexts i) (w .base)
-      (λ j m. onward i j (queue-in (w .base) h l) (w .base .sound i (w .base .marked h l)) m) in
-      record {
-        base = a .0;
-        begun = a .1 .keeps 0 (w .begun);
-        within = omega (arith, a .1 .more);
-        closed = λ k m j e. elim (decLt k h) [
-          | yes y ↦ a .1 .keeps j (w .closed k y j (subst (λ v. In j (nexts v)) (a .1 .same k (omega arith)) e))
-          | no z ↦ let q : k ≡ h = omega arith in
-              a .2 j (subst (λ v. In j (nexts v)) (a .1 .same h l) (subst (λ v. In j (nexts (getD (markedAll x (nexts i) .queue) v 0))) q e))
-        ];
-      }
-
-  -- a turn loses nothing
-  pub grown-by : (x : Walk) (h : ℕ) → Walked N R nexts x h → h < x .n → Grown x (markedAll x (nexts (getD (x .queue) h 0)))
-  grown-by x h w l =
-      let i = getD (x .queue) h 0 in
-      marked-all N R x (nexts i) (w .base) (λ j m. onward i j (queue-in (w .base) h l) (w .base .sound i (w .base .marked h l)) m) .1
-
-  -- at the end what is marked is closed
-  pub done : (x : Walk) → Walked N R nexts x (x .n) → (i j : ℕ) → getD (x .marks) i 0 ≡ 1 → In j (nexts i) → getD (x .marks) j 0 ≡ 1
-  done x w i j m e =
-      let f = w .base .held i m in
-      w .closed (f .0) (f .1) j (subst (λ v. In j (nexts v)) (sym (f .2)) e)
-
--- the beginning
-pub start : (N : ℕ) (R : ℕ → Type 0) (nexts : ℕ → List ℕ) (v q : List ℕ) → 0 < N → R 0 → length v ≡ N → length q ≡ N
-    → ((i : ℕ) → getD v i 0 ≡ 0) → tally v ≡ 0 → Walked N R nexts (marked (walk v q 0) 0) 0
-start N R nexts v q p r lv lq z t =
-    let no : (i : ℕ) → getD v i 0 ≡ 1 → ⊥ = λ i e. omega (arith, z i) in
-    let b : Base N R (walk v q 0) = record {
-      room = record { marks = lv; small = λ i. omega (arith, z i); counted = t };
-      slots = lq;
-      sound = λ i e. absurd (no i e);
-      held = λ i e. absurd (no i e);
-      marked = λ k h. absurd (omega arith);
-    } in
-    let a = marks-one N R (walk v q 0) 0 b p r in
-    record { base = a .0; begun = a .2; within = omega arith; closed = λ k h. absurd (omega arith) }
+    pub gone-holds : (x : Walk) (a m : ℕ) → Kept way f E x → a ≤ 1024 → m < 512 → ((d : ℕ) → Has m d → Reach way (point a d))
+        → Holds way f E (gone x a m) × Grown x (gone x a m .walk) × ((d : ℕ) → Has m d → At (gone x a m .walk) a d)
+    gone-holds x a m i h l new =
+        gone-cases x a m (λ y. Holds way f E y × Grown x (y .walk) × ((d : ℕ) → Has m d → At (y .walk) a d))
+        (let s = reached-kept x a m i h l new in
+        let t = taken-holds (reached x a m) (s .0) in
+        (t .0, λ b d k. t .1 b d (s .1 b d k), λ d k. t .1 a d (s .2 d k)))
+        (λ e u. let w = joined-low x a m (i .room) h l in
+        let g = more x a m (i .room) h l e in (
+          in-hand x a (joined x a m) (x .n) i h w (omega arith) (up-same x a m i h l new) (on-hand-room x a m (i .room) h l e u)
+              (λ b q _. i .stands b q) (joined-sound x a m i h l new),
+          store-grown x a (joined x a m) i h (up-same x a m i h l new) (x .stack) (x .n),
+          stored-at x a m i h l new (joined x a m) (same-part x a m i h l new),
+        ))

@@ -1,18 +1,35 @@
-// The walk of the program check: every point that a program reaches is looked at once, and the lowest
-// bad one is kept.
-ghost use Prim.Native.Nat.{_<_};
+// The walk of the program check: every address that a program reaches is looked at for all the depths
+// at which it is reached, and the lowest bad point is kept.
+//
+// The depths of an address are a number with bit d for the depth d, 0 to 8.
+ghost use Prim.Native.Nat.{_<_, _≤_};
 ghost use mathlib.Core.Path.{_≡_};
 ghost use Rattle.leading.specs.Leading.{wayAt};
-ghost use Rattle.walking.specs.Walk.{walk, Room, Blank, EndsIn, marked, markedAll, ends, noted};
+ghost use Rattle.walking.specs.Walk.{
+  Least,
+  walk,
+  inHand,
+  reached,
+  taken,
+  gone,
+  spreadOver,
+  lowered,
+  Noted,
+  Room,
+  EndsIn,
+  Blank,
+};
 ghost use Rattle.walking.specs.Found.{FoundIn};
 ghost use Rattle.walking.specs.Laws.{Laws};
-use leading::way_at;
-use points::Point;
-use points::Way;
+use leading::Paths;
+use leading::paths_at;
 use status::Status;
 
-// 1,025 addresses with nine depths each; `Found::NONE` is the same number.
-const POINTS: usize = 9225;
+// The addresses of the records, and the one behind them.
+const ADDRESSES: usize = 1025;
+
+// Added to an address's depths while it waits on the stack.
+const WAITS: u16 = 512;
 
 // The lowest bad point by its number, and its status.
 pub struct Found {
@@ -25,82 +42,190 @@ impl Found {
     pub const NONE: u16 = 9225;
 }
 
-// Marks the point of number i, unless it is marked, and puts it at the end of the queue, which holds n. It
-// answers how many are in the queue then, as `spread` and `begin` do.
-fn mark(marks: &mut [u8; POINTS], queue: &mut [u16; POINTS], n: usize, i: usize) -> usize
-    requires { ⌜ (i < 9225) × Room 9225 (walk (now marks) (now queue) n) ⌝ }
-    ensures { λ r. ⌜ walk (now (marks .exit)) (now (queue .exit)) r ≡ marked (walk (now (marks .entry)) (now (queue .entry)) n) i ⌝ }
+// The address to look at next with its depths, none where nothing is left; and how many wait besides.
+struct Hand {
+    n: usize,
+    address: u16,
+    depths: u16,
+}
+
+// An address is reached at some depths: where one of them is new, it waits on the stack, once. It
+// answers how many stand there then.
+fn reach(
+    masks: &mut [u16; ADDRESSES],
+    stack: &mut [u16; ADDRESSES],
+    n: usize,
+    address: u16,
+    depths: u16,
+) -> usize
+    requires { ⌜ (address ≤ 1024) × (depths < 512) × Room (walk (now masks) (now stack) n) ⌝ }
+    ensures { λ r. ⌜ walk (now (masks .exit)) (now (stack .exit)) r ≡ reached (walk (now (masks .entry)) (now (stack .entry)) n) address depths ⌝ }
 {
-    if marks[i] == 0 {
-        marks[i] = 1;
-        queue[n] = i as u16;
+    let a = address as usize;
+    let old = masks[a];
+    let before = old % WAITS;
+    let joined = before | depths;
+    if joined == before {
+        return n;
+    }
+    masks[a] = joined + WAITS;
+    if old < WAITS {
+        stack[n] = address;
         return n + 1;
     }
     n
 }
 
-// Marks the points that a way leads to.
-fn spread(marks: &mut [u8; POINTS], queue: &mut [u16; POINTS], n: usize, way: Way) -> usize
-    requires { ⌜ EndsIn way × Room 9225 (walk (now marks) (now queue) n) ⌝ }
-    ensures { λ r. ⌜ walk (now (marks .exit)) (now (queue .exit)) r ≡ markedAll (walk (now (marks .entry)) (now (queue .entry)) n) (ends way) ⌝ }
+// Takes an address off the stack.
+fn take(masks: &mut [u16; ADDRESSES], stack: &mut [u16; ADDRESSES], n: usize) -> Hand
+    requires { ⌜ Room (walk (now masks) (now stack) n) ⌝ }
+    ensures { λ r. ⌜ inHand (now (masks .exit)) (now (stack .exit)) r ≡ taken (walk (now (masks .entry)) (now (stack .entry)) n) ⌝ }
 {
-    match way {
-        Way::Bad(_) => n,
-        Way::Nowhere => n,
-        Way::To(p) => mark(marks, queue, n, p.number()),
-        Way::Both(p, q) => {
-            let m = mark(marks, queue, n, p.number());
-            mark(marks, queue, m, q.number())
+    if n == 0 {
+        return Hand {
+            n: 0,
+            address: 0,
+            depths: 0,
+        };
+    }
+    let last = n - 1;
+    let address = stack[last];
+    let a = address as usize;
+    let depths = masks[a] % WAITS;
+    masks[a] = depths;
+    Hand {
+        n: last,
+        address: address,
+        depths: depths,
+    }
+}
+
+// An address is reached, and one is taken: the same one where it has new depths and did not wait, which
+// spares the stack along records in a row.
+fn go(
+    masks: &mut [u16; ADDRESSES],
+    stack: &mut [u16; ADDRESSES],
+    n: usize,
+    address: u16,
+    depths: u16,
+) -> Hand
+    requires { ⌜ (address ≤ 1024) × (depths < 512) × Room (walk (now masks) (now stack) n) ⌝ }
+    ensures { λ r. ⌜ inHand (now (masks .exit)) (now (stack .exit)) r ≡ gone (walk (now (masks .entry)) (now (stack .entry)) n) address depths ⌝ }
+{
+    let a = address as usize;
+    let mask = masks[a];
+    if mask < WAITS {
+        let before = mask % WAITS;
+        let joined = before | depths;
+        if joined != before {
+            masks[a] = joined;
+            return Hand {
+                n: n,
+                address: address,
+                depths: joined,
+            };
+        }
+    }
+    let m = reach(masks, stack, n, address, depths);
+    take(masks, stack, m)
+}
+
+// All depths of an address go where they lead. From depth 8, which a mask shows by 256, no call does.
+fn spread(
+    masks: &mut [u16; ADDRESSES],
+    stack: &mut [u16; ADDRESSES],
+    n: usize,
+    depths: u16,
+    paths: Paths,
+) -> Hand
+    requires { ⌜ EndsIn paths × (depths < 512) × Room (walk (now masks) (now stack) n) ⌝ }
+    ensures { λ r. ⌜ inHand (now (masks .exit)) (now (stack .exit)) r ≡ spreadOver (walk (now (masks .entry)) (now (stack .entry)) n) depths paths ⌝ }
+{
+    match paths {
+        Paths::Bad(_) => take(masks, stack, n),
+        Paths::Nowhere => take(masks, stack, n),
+        Paths::Back => take(masks, stack, n),
+        Paths::To(a) => go(masks, stack, n, a, depths),
+        Paths::Both(a, b) => {
+            let m = reach(masks, stack, n, a, depths);
+            go(masks, stack, m, b, depths)
+        }
+        Paths::Call(a, b) => {
+            let callers = depths % 256;
+            let m = reach(masks, stack, n, a, callers * 2);
+            go(masks, stack, m, b, callers)
         }
     }
 }
 
-// Marks the first point.
-fn begin(marks: &mut [u8; POINTS], queue: &mut [u16; POINTS]) -> usize
-    requires { ⌜ Room 9225 (walk (now marks) (now queue) 0) ⌝ }
-    ensures { λ r. ⌜ walk (now (marks .exit)) (now (queue .exit)) r ≡ marked (walk (now (marks .entry)) (now (queue .entry)) 0) 0 ⌝ }
+// The least of some depths.
+fn least(depths: u16) -> u16
+    requires { ⌜ (0 < depths) × (depths < 512) ⌝ }
+    ensures { λ r. ⌜ Least depths r ⌝ }
 {
-    let first = Point::first();
-    mark(marks, queue, 0, first.number())
+    let mut depth: u16 = 0;
+    let mut rest = depths;
+    while rest % 2 == 0 {
+        rest = rest / 2;
+        depth += 1;
+    }
+    depth
 }
 
-// The lower of what was found and a point that was looked at, where that is bad.
-fn note(found: Found, i: u16, way: Way) -> Found
-    ensures { λ r. ⌜ r ≡ noted found i way ⌝ }
+// The lower of what was found and a bad point.
+fn lower(found: Found, number: u16, status: Status) -> Found
+    ensures { λ r. ⌜ r ≡ lowered found number status ⌝ }
 {
-    match way {
-        Way::Bad(status) => {
-            if i < found.number {
-                return Found {
-                    number: i,
-                    status: status,
-                };
+    if number < found.number {
+        return Found {
+            number: number,
+            status: status,
+        };
+    }
+    found
+}
+
+// The lowest of what was found and the bad points of an address that was looked at.
+fn note(found: Found, address: u16, depths: u16, paths: Paths) -> Found
+    requires { ⌜ (address ≤ 1024) × (0 < depths) × (depths < 512) ⌝ }
+    ensures { λ r. ⌜ Noted paths address depths found r ⌝ }
+{
+    match paths {
+        Paths::Bad(status) => lower(found, address * 9 + least(depths), status),
+        Paths::Nowhere => found,
+        Paths::Back => {
+            if depths % 2 == 1 {
+                return lower(found, address * 9, Status::Unavailable);
             }
             found
         }
-        Way::Nowhere => found,
-        Way::To(_) => found,
-        Way::Both(_, _) => found,
+        Paths::To(_) => found,
+        Paths::Both(_, _) => found,
+        Paths::Call(_, _) => {
+            if 256 <= depths {
+                return lower(found, address * 9 + 8, Status::Unavailable);
+            }
+            found
+        }
     }
 }
 
-// Looks at every point that is reached, in the order of the queue; h of them have been looked at.
-fn look(program: &[u8], marks: &mut [u8; POINTS], queue: &mut [u16; POINTS]) -> Found
-    requires { ⌜ Blank (now marks) (now queue) ⌝ }
+// Looks at every address that is reached, from address 0 at depth 0 on.
+fn look(program: &[u8], masks: &mut [u16; ADDRESSES], stack: &mut [u16; ADDRESSES]) -> Found
+    requires { ⌜ Blank (now masks) (now stack) ⌝ }
     ensures { λ r. ⌜ FoundIn (wayAt (now (program .entry))) r ⌝ }
 {
     let mut found = Found {
         number: Found::NONE,
         status: Status::Done,
     };
-    let mut n = begin(marks, queue);
-    let mut h: usize = 0;
-    while h < n {
-        let i = queue[h];
-        let way = way_at(program, Point::numbered(i));
-        found = note(found, i, way);
-        n = spread(marks, queue, n, way);
-        h += 1;
+    let mut hand = go(masks, stack, 0, 0, 1);
+    while hand.depths != 0 {
+        let address = hand.address;
+        let depths = hand.depths;
+        let paths = paths_at(program, address);
+        found = note(found, address, depths, paths);
+        hand = spread(masks, stack, hand.n, depths, paths);
     }
     found
 }
@@ -109,9 +234,9 @@ fn look(program: &[u8], marks: &mut [u8; POINTS], queue: &mut [u16; POINTS]) -> 
 pub fn lowest(program: &[u8]) -> Found
     ensures { λ r. ⌜ FoundIn (wayAt (now (program .entry))) r ⌝ }
 {
-    let mut marks = [0u8; POINTS];
-    let mut queue = [0u16; POINTS];
-    look(program, &mut marks, &mut queue)
+    let mut masks = [0u16; ADDRESSES];
+    let mut stack = [0u16; ADDRESSES];
+    look(program, &mut masks, &mut stack)
 }
 
 // The laws of the walk, held to be proved: the function does nothing.

@@ -14,7 +14,7 @@ use Rattle.sheet.specs.Places.{tabulate, allBelow}
 use Rattle.sheet.proofs.Below.{below, below-of}
 use Rattle.sheet.proofs.Tables.{at-tabulate, length-tabulate}
 use Rattle.board.specs.declared.Registers.{Registers}
-use Rattle.image.specs.Image.{encoded, holds, isImage, coreOf, downloadOf, outputsOf, digitalOf, analogOf, entriesOf, valuesOf, decoded}
+use Rattle.image_parts.specs.Image.{encoded, holds, isImage, coreOf, downloadOf, outputsOf, digitalOf, analogOf, entriesOf, valuesOf, decoded}
 use Rattle.image.specs.Laws.{AllWords, AllBelow, Held, Laws}
 use Rattle.image.proofs.Stores.{whole}
 use Rattle.image.proofs.Trips as trips

@@ -15,8 +15,8 @@ use Rattle.order.specs.declared.Compared.{Compared}
 use Rattle.order.specs.declared.Compared.the-variants.{Less, Equal, Greater}
 use Rattle.registers.specs.declared.Order.{Order}
 use Rattle.registers.specs.declared.Order.the-variants.{Stopped, Velocity, Position}
-use Rattle.image.specs.Numbers.{comparisonBits, orderBits, bit, comparisonOf, orderOf}
-use Rattle.image.specs.Image.{isComparison}
+use Rattle.image_parts.specs.Numbers.{comparisonBits, orderBits, bit, comparisonOf, orderOf}
+use Rattle.image_parts.specs.Image.{isComparison}
 
 -- ---- from the register
 pub word-back : (z : ℤ) → SFits w32 z → ofBits (bitsOf z) ≡ z

@@ -9,7 +9,7 @@ use lib.Seq.{sets}
 use mir.Syntax.{w32}
 use mir.Val.{SFits}
 use Rattle.board.specs.declared.Registers.{Registers}
-use Rattle.image.specs.Image.{encoded, isImage, decoded}
+use Rattle.image_parts.specs.Image.{encoded, isImage, decoded}
 
 -- every element is a number of 32 bits
 abbrev pub AllWords : List ℤ → Type 0

@@ -4,27 +4,15 @@
 // wait, download, order, outputs, inputs, the call stack's depth and entries, and the 103 working values
 // from place 34 on. The count of a wait stands there by its bits; every other number stands as it is.
 ghost use mathlib.Core.Path.{_≡_};
-ghost use Rattle.image.specs.Image as spec;
+ghost use Rattle.image_parts.specs.Image as spec;
 ghost use Rattle.image.specs.Laws.{Laws};
 use words::Word;
 
-mod decoding;
 mod encoding;
-mod number;
 
-pub use decoding::analog_of;
-pub use decoding::core_of;
-pub use decoding::decode;
-pub use decoding::digital_of;
-pub use decoding::download_of;
-pub use decoding::entries_of;
-pub use decoding::flags_of;
-pub use decoding::outputs_of;
-pub use decoding::values_of;
-pub use decoding::wait_of;
 pub use encoding::encode;
 pub use encoding::encode_parts;
-use number::number_at;
+use image_parts::number_at;
 
 // The highest bits that the register at a place has room for; the comparison, at 2, has a test of its
 // own.

@@ -21,7 +21,7 @@ use Rattle.replying.specs.declared.Addresses.{Addresses}
 use Rattle.serial.specs.declared.Taken.the-variants.{Damaged}
 use Rattle.datagrams.specs.Datagram as datagrams
 use Rattle.board.specs.declared.Registers.{Registers}
-use Rattle.image.specs.Image.{registers, encoded, coreOf, downloadOf, outputsOf, digitalOf, analogOf, entriesOf, valuesOf, decoded}
+use Rattle.image_parts.specs.Image.{registers, encoded, coreOf, downloadOf, outputsOf, digitalOf, analogOf, entriesOf, valuesOf, decoded}
 use Rattle.image_datagrams.specs.Command.{Changed, changedBy, After, afterOutcome}
 use Rattle.image_datagrams.specs.Datagram.{left, leftBy, obeyedBy, received, Stands}
 use Rattle.image_datagrams.proofs.Received.{stays}

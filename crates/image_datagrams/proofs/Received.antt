@@ -16,7 +16,7 @@ use Rattle.serial.specs.Serial.{takenOf}
 use Rattle.serial.specs.declared.Taken.the-variants.{NotOurs}
 use Rattle.board.specs.Range.{registersInRange}
 use Rattle.datagrams.specs.Datagram as datagrams
-use Rattle.image.specs.Image.{isImage, valuesOf, decoded}
+use Rattle.image_parts.specs.Image.{isImage, valuesOf, decoded}
 use Rattle.image.specs.Laws.{AllWords}
 use Rattle.image_range.specs.Range.{inRange}
 use Rattle.image_events.specs.Events.{put}

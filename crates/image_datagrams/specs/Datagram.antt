@@ -8,7 +8,7 @@ use lib.ListN.{length}
 use Rattle.words.specs.Word.{pick}
 use Rattle.wire.specs.declared.Command.{Command}
 use Rattle.serial.specs.declared.Taken.{Taken}
-use Rattle.image.specs.Image.{isImage, decoded}
+use Rattle.image_parts.specs.Image.{isImage, decoded}
 use Rattle.image.specs.Laws.{AllWords}
 use Rattle.datagrams.specs.Datagram as datagrams
 use Rattle.image_events.specs.Events.{put}

@@ -9,7 +9,7 @@ ghost use lib.ListN.{getD};
 ghost use Rattle.words.specs.Bytes.{fourOf};
 ghost use Rattle.replying.specs.Reply as replies;
 ghost use Rattle.commands.specs.Obey as obeying;
-ghost use Rattle.image.specs.Image.{isImage, valuesOf, decoded};
+ghost use Rattle.image_parts.specs.Image.{isImage, valuesOf, decoded};
 ghost use Rattle.image.specs.Laws.{AllWords};
 ghost use Rattle.image_datagrams.specs.Command as left;
 ghost use Rattle.image_datagrams.specs.Datagram as spec;
@@ -30,8 +30,7 @@ fn byte_of(image: &[i32; 137], place: usize) -> u8
     requires { ⌜ place < 137 ⌝ }
     ensures { λ r. ⌜ r ≡ fourOf (getD (now (image .entry)) place (pos 0)) .b0 ⌝ }
 {
-    let v = image[place];
-    let four = words::four_of(Word { v: v });
+    let four = words::four_of(image_parts::number_at(image, place));
     four.b0
 }
 
@@ -57,11 +56,11 @@ fn direct(image: &mut [i32; 137], cells: &mut [u8], c: Command) -> Obeyed
     requires { ⌜ spec.Stands (now image) ⌝ }
     ensures { λ r. ⌜ left.changed r (now (image .exit)) (now (cells .exit)) ≡ left.changedBy (now (image .entry)) (obeying.direct c (decoded (now (image .entry))) (now (cells .entry))) ⌝ }
 {
-    let core = image::core_of(image);
-    let mut values = image::values_of(image);
-    let mut outputs = image::outputs_of(image);
-    let digital = image::digital_of(image);
-    let analog = image::analog_of(image);
+    let core = image_parts::core_of(image);
+    let mut values = image_parts::values_of(image);
+    let mut outputs = image_parts::outputs_of(image);
+    let digital = image_parts::digital_of(image);
+    let analog = image_parts::analog_of(image);
     let directed = directing::direct(c, core, &mut values, &mut outputs, &digital, &analog, cells);
     let status = directed.status;
     let value = directed.value;
@@ -72,8 +71,8 @@ fn direct(image: &mut [i32; 137], cells: &mut [u8], c: Command) -> Obeyed
     if judge::is_reading(c.number) {
         return obeyed;
     }
-    let entries = image::entries_of(image);
-    let download = image::download_of(image);
+    let entries = image_parts::entries_of(image);
+    let download = image_parts::download_of(image);
     let after = directed.core;
     image::encode_parts(
         image,
@@ -92,7 +91,7 @@ fn direct(image: &mut [i32; 137], cells: &mut [u8], c: Command) -> Obeyed
 fn whole(image: &mut [i32; 137], program: &mut [u8], cells: &mut [u8], c: Command) -> Obeyed
     ensures { λ r. ⌜ left.after r (now (image .exit)) (now (program .exit)) (now (cells .exit)) ≡ left.afterOutcome (now (image .entry)) (obeying.obeyed c (decoded (now (image .entry))) (now (program .entry)) (now (cells .entry))) ⌝ }
 {
-    let obeyed = commands::obey(image::decode(image), program, cells, c);
+    let obeyed = commands::obey(image_parts::decode(image), program, cells, c);
     let registers = obeyed.registers;
     let status = obeyed.status;
     let value = obeyed.value;
@@ -111,7 +110,7 @@ fn obey(image: &mut [i32; 137], program: &mut [u8], cells: &mut [u8], c: Command
     if 128 <= c.number {
         return whole(image, program, cells, c);
     }
-    let download = image::download_of(image);
+    let download = image_parts::download_of(image);
     if download.on {
         return whole(image, program, cells, c);
     }

@@ -21,7 +21,7 @@ use Rattle.sampling.proofs.Rules.{values-length}
 use Rattle.events.specs.Events as events
 use Rattle.board.specs.Range.{registersInRange}
 use Rattle.board.specs.declared.Registers.{Registers}
-use Rattle.image.specs.Image.{coreBits, pinBits, stackBits, valuesOf, encoded, isImage, decoded}
+use Rattle.image_parts.specs.Image.{coreBits, pinBits, stackBits, valuesOf, encoded, isImage, decoded}
 use Rattle.image.specs.Laws.{AllWords}
 use Rattle.image.proofs.Rules.{by-places, encode-decode, laws}
 use Rattle.image.proofs.Trips.{word-back}

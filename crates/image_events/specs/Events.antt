@@ -14,7 +14,7 @@ use Rattle.sampling.specs.declared.Readings.{Readings}
 use Rattle.sampling.specs.declared.Sample.{Sample}
 use Rattle.board.specs.Registers.{powered}
 use Rattle.board.specs.declared.Registers.{Registers}
-use Rattle.image.specs.Image.{encoded, isImage, decoded}
+use Rattle.image_parts.specs.Image.{encoded, isImage, decoded}
 use Rattle.events.specs.Events as events
 
 -- the image left, and the number answered

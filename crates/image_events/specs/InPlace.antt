@@ -10,7 +10,7 @@ use Rattle.waits.specs.Waits as waits
 use Rattle.pins.specs.Pins.{bitOf, alarmsOf}
 use Rattle.pins.specs.declared.Inputs.{Inputs}
 use Rattle.pins.specs.declared.Signals.{Signals}
-use Rattle.image.specs.Image.{flagsOf, waitOf}
+use Rattle.image_parts.specs.Image.{flagsOf, waitOf}
 
 abbrev pub putBits : ℕ → ℕ → List ℤ → List ℤ
 putBits place bits l = set l place (ofBits bits)

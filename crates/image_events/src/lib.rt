@@ -116,7 +116,7 @@ fn put_field(image: &mut [i32; 137], place: usize, fields: &[i32; 16], field: us
 fn put_alarms(image: &mut [i32; 137], signals: Signals)
     ensures { λ _. ⌜ now (image .exit) ≡ places.alarmed signals (now (image .entry)) ⌝ }
 {
-    let flags = image::flags_of(image);
+    let flags = image_parts::flags_of(image);
     let after = flags.raised(signals.alarms());
     put_bits(image, 4, after.eal as u32);
     put_bits(image, 5, after.edv as u32);
@@ -172,7 +172,7 @@ pub fn sample(image: &mut [i32; 137], fields: &[i32; 16]) -> u8
 fn put_tick(image: &mut [i32; 137])
     ensures { λ _. ⌜ now (image .exit) ≡ places.ticked (now (image .entry)) ⌝ }
 {
-    let wait = image::wait_of(image);
+    let wait = image_parts::wait_of(image);
     let later = wait.ticked();
     put_bits(image, 10, later.count);
 }

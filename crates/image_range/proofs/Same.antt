@@ -25,8 +25,8 @@ use Rattle.ranges.specs.Range.{every, addressInRange, bitInRange, entriesInRang
 use Rattle.registers.specs.Range.{coreInRange}
 use Rattle.values.specs.Values.{allowedAt, valuesInRange}
 use Rattle.board.specs.Range.{registersInRange}
-use Rattle.image.specs.Numbers.{bitsAt, byteAt}
-use Rattle.image.specs.Image.{holds, isImage, outputsOf, digitalOf, analogOf, entriesOf, valuesOf, decoded}
+use Rattle.image_parts.specs.Numbers.{bitsAt, byteAt}
+use Rattle.image_parts.specs.Image.{holds, isImage, outputsOf, digitalOf, analogOf, entriesOf, valuesOf, decoded}
 use Rattle.image_range.specs.Range.{inRange, allOf, upTo, comparisonInRange, scalars, scalarsInRange, pins, pinsInRange, entries, stackInRange}
 
 -- ---- a row of tests

@@ -7,8 +7,8 @@ use lib.IntN.{ℤ, pos}
 use lib.ListN.{getD}
 use Rattle.order.specs.Order as order
 use Rattle.board.specs.Range.{registersInRange}
-use Rattle.image.specs.Numbers.{bitsAt}
-use Rattle.image.specs.Image.{isComparison, isImage, decoded}
+use Rattle.image_parts.specs.Numbers.{bitsAt}
+use Rattle.image_parts.specs.Image.{isComparison, isImage, decoded}
 
 -- 23 is answered where this does not hold: a register has no room for its number, or "registers handed in with an address, .."
 unfoldable pub inRange : List ℤ → Bool

@@ -3,22 +3,13 @@
 // Every place is looked at, with no end in the middle, so that the compiler takes several at once.
 ghost use Prim.Native.Nat.{_<_};
 ghost use mathlib.Core.Path.{_≡_};
-ghost use lib.IntN.{pos};
-ghost use lib.ListN.{getD, drop};
-ghost use Rattle.words.specs.Word.{word};
+ghost use lib.ListN.{drop};
 ghost use Rattle.sheet.specs.Rows.{parameters};
 ghost use Rattle.values.specs.Values.{valuesInRange};
 ghost use Rattle.image.specs.Laws.{AllWords};
 ghost use Rattle.image_range.specs.Range as spec;
+use image_parts::number_at;
 use words::Word;
-
-fn number_at(image: &[i32; 137], place: usize) -> Word
-    requires { ⌜ place < 137 ⌝ }
-    ensures { λ r. ⌜ r ≡ word (getD (now (image .entry)) place (pos 0)) ⌝ }
-{
-    let v = image[place];
-    Word { v: v }
-}
 
 // Whether the number at a place, by its bits, is at most a highest.
 fn up_to(image: &[i32; 137], place: usize, high: u32) -> bool

@@ -5,7 +5,7 @@ use mathlib.Core.List.{List}
 use lib.IntN.{ℤ}
 use Rattle.words.specs.Word.{pick}
 use Rattle.store.specs.Store.{isProgramStore, isParameterStore}
-use Rattle.image.specs.Image.{isImage, decoded}
+use Rattle.image_parts.specs.Image.{isImage, decoded}
 use Rattle.runs.specs.Run as runs
 use Rattle.image_events.specs.Events.{put}
 use Rattle.image_datagrams.specs.Datagram.{refused}

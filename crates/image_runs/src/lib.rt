@@ -47,7 +47,7 @@ pub fn run(image: &mut [i32; 137], program: &[u8], cells: &mut [u8], budget: usi
             steps: 0,
         };
     }
-    let ran = runs::run(image::decode(image), program, cells, budget);
+    let ran = runs::run(image_parts::decode(image), program, cells, budget);
     let registers = ran.registers;
     let ended = ran.ended;
     image::encode(registers, image);

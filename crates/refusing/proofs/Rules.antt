@@ -10,7 +10,7 @@ use Rattle.words.proofs.Bools.{either, not-other}
 use Rattle.store.specs.Store.{isProgramStore, isParameterStore}
 use Rattle.board.specs.Range.{registersInRange}
 use Rattle.board.specs.declared.Registers.{Registers}
-use Rattle.image.specs.Image.{isImage, decoded}
+use Rattle.image_parts.specs.Image.{isImage, decoded}
 use Rattle.image.proofs.Rules as image
 use Rattle.image.proofs.Stores.{whole}
 use Rattle.events.specs.Events as events

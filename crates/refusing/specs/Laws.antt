@@ -8,7 +8,7 @@ use lib.IntN.{ℤ}
 use lib.ListN.{length}
 use Rattle.store.specs.Store.{isProgramStore, isParameterStore}
 use Rattle.board.specs.Range.{registersInRange}
-use Rattle.image.specs.Image.{isImage, decoded}
+use Rattle.image_parts.specs.Image.{isImage, decoded}
 use Rattle.image.specs.Laws.{AllWords}
 use Rattle.datagrams.specs.Datagram.{lent}
 use Rattle.image_events.specs.Events.{sampled, ticked}

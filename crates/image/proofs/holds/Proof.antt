@@ -1,4 +1,4 @@
-use Rattle.image.specs.Image.{holds}
+use Rattle.image_parts.specs.Image.{holds}
 use borrow.Author.Tests.{eq-eqb, ne-eqb, le-leb, lt-leb}
 use borrow.Author.Needs.{needs}
 use Rattle.image.proofs.holds.Statement.{statement}

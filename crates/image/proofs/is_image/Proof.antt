@@ -9,7 +9,7 @@ use lib.IntN.{pos}
 use lib.ListN.{getD}
 use Rattle.sheet.specs.Places.{allBelow}
 use Rattle.sheet.proofs.Below.{below-not, below-next}
-use Rattle.image.specs.Image.{holds, isImage}
+use Rattle.image_parts.specs.Image.{holds, isImage}
 use Rattle.image.proofs.is_image.Statement.{statement}
 use Rattle.image.proofs.is_image.Tie as tie
 

@@ -4,7 +4,7 @@ use mathlib.Core.Path.{refl, ap, _∙_}
 use mathlib.Core.List.{List, map}
 use lib.Seq.{sets}
 use Rattle.words.specs.Word.{ofBits}
-use Rattle.image.specs.Image.{coreBits, pinBits, stackBits, valuesOf, encoded}
+use Rattle.image_parts.specs.Image.{coreBits, pinBits, stackBits, valuesOf, encoded}
 use Rattle.image.proofs.Stores.{four}
 use borrow.Author.Needs.{needs}
 use Rattle.image.proofs.encoding.encode_parts.Statement.{statement}

@@ -8,7 +8,7 @@ use lib.Seq.{sets}
 use mir.Syntax.{w32}
 use mir.ValLaws.{toZ-ofZ}
 use Rattle.sheet.proofs.Tables.{at-tabulate, length-tabulate}
-use Rattle.image.specs.Image.{valuesOf}
+use Rattle.image_parts.specs.Image.{valuesOf}
 use Rattle.image.proofs.Stores.{next, all}
 use Rattle.image.proofs.encoding.put_values.Statement.{statement}
 use Rattle.image.proofs.encoding.put_values.Tie as tie

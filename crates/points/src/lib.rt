@@ -1,7 +1,7 @@
 // Points of a program, as the program check walks them.
 ghost use mathlib.Core.Path.{_≡_};
 ghost use Rattle.points.specs.Laws.{Laws};
-ghost use Rattle.points.specs.Points.{first, isEnd, isDeepest, numberOf, pointAt};
+ghost use Rattle.points.specs.Points.{first, pointAt};
 use status::Status;
 
 // An address with a call depth.
@@ -34,27 +34,6 @@ impl Point {
             address: 0,
             depth: 0,
         }
-    }
-
-    // Whether it stands behind the last record.
-    pub fn is_end(self) -> bool
-        ensures { λ r. ⌜ r ≡ isEnd self ⌝ }
-    {
-        Point::END <= self.address
-    }
-
-    // Whether the call stack is full there.
-    pub fn is_deepest(self) -> bool
-        ensures { λ r. ⌜ r ≡ isDeepest self ⌝ }
-    {
-        Point::DEEPEST <= self.depth
-    }
-
-    // Its number in the order of address, then depth.
-    pub fn number(self) -> usize
-        ensures { λ r. ⌜ r ≡ numberOf self ⌝ }
-    {
-        self.address as usize * 9 + self.depth as usize
     }
 
     // The point of a number.

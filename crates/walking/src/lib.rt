@@ -23,10 +23,14 @@ ghost use Rattle.walking.specs.Found.{FoundIn};
 ghost use Rattle.walking.specs.Laws.{Laws};
 use leading::Paths;
 use leading::paths_at;
+use points::Point;
 use status::Status;
 
 // The addresses of the records, and the one behind them.
 const ADDRESSES: usize = 1025;
+
+// The greatest depth, from which a call is bad.
+const DEEPEST: u16 = Point::DEEPEST as u16;
 
 // Added to an address's depths while it waits on the stack.
 const WAITS: u16 = 512;
@@ -203,14 +207,14 @@ fn note(found: Found, address: u16, depths: u16, paths: Paths) -> Found
         Paths::Both(_, _) => found,
         Paths::Call(_, _) => {
             if 256 <= depths {
-                return lower(found, address * 9 + 8, Status::Unavailable);
+                return lower(found, address * 9 + DEEPEST, Status::Unavailable);
             }
             found
         }
     }
 }
 
-// Looks at every address that is reached, from address 0 at depth 0 on.
+// Looks at every address that is reached, from the first point on, whose depth is 0.
 fn look(program: &[u8], masks: &mut [u16; ADDRESSES], stack: &mut [u16; ADDRESSES]) -> Found
     requires { ⌜ Blank (now masks) (now stack) ⌝ }
     ensures { λ r. ⌜ FoundIn (wayAt (now (program .entry))) r ⌝ }
@@ -219,7 +223,8 @@ fn look(program: &[u8], masks: &mut [u16; ADDRESSES], stack: &mut [u16; ADDRESSE
         number: Found::NONE,
         status: Status::Done,
     };
-    let mut hand = go(masks, stack, 0, 0, 1);
+    let first = Point::first();
+    let mut hand = go(masks, stack, 0, first.address, 1);
     while hand.depths != 0 {
         let address = hand.address;
         let depths = hand.depths;

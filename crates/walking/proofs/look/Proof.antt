@@ -1,9 +1,11 @@
 -- `walking::look` meets its contract. Assumes nothing.
 use borrow.Author.Needs.{needs}
 use native.Mathlib.Omega.{arith}
+use mathlib.Core.Path.{ap, _∙_}
+use Rattle.points.specs.declared.Point.{Point}
 use Rattle.leading.specs.Leading.{wayAt}
 use Rattle.leading.proofs.Ways.{leads-in}
-use Rattle.walking.specs.Walk.{inHand}
+use Rattle.walking.specs.Walk.{walk, inHand, gone}
 use Rattle.walking.proofs.Masks.{leftHeld}
 use Rattle.walking.proofs.Scan.{Going, begin, blank-room, ends-in, turned, less, finished}
 use Rattle.walking.proofs.look.Statement.{statement}
@@ -16,10 +18,16 @@ abbrev μ-loop : tie.MeasureT-loop
 μ-loop program masks₀ stack₀ found₀ hand₀ masks stack found hand = leftHeld (inHand masks stack hand)
 
 go-requires : tie.Need-go-requires Inv-loop μ-loop
-go-requires c κs = (omega arith, omega arith, blank-room (c .before .before .before .pre))
+go-requires c κs =
+    let f = c .before .before in
+    let e = ap (λ (p : Point). p .address) (f .first .ensures) in
+    (omega (arith, e), omega arith, blank-room (f .before .before .pre))
 
 loop-holds : tie.Need-loop-holds Inv-loop μ-loop
-loop-holds c = begin (wayAt _) (leads-in _) (c .before .before .before .before .pre) (c .go .ensures)
+loop-holds c =
+    let f = c .before .before .before in
+    let a = f .before .before in
+    begin (wayAt _) (leads-in _) (a .pre) (c .go .ensures ∙ ap (λ (p : Point). gone (walk (a .args .masks .now) (a .args .stack .now) 0) (p .address) 1) (f .first .ensures))
 
 note-requires : tie.Need-note-requires Inv-loop μ-loop
 note-requires c κs =
@@ -46,6 +54,7 @@ look-spec =
     (tie.spec
     Inv-loop
     μ-loop
+    (λ c κs. search needs)
     go-requires
     loop-holds
     (λ c κs. search needs)

@@ -5,7 +5,7 @@
 //! [`Registers`] and is lent the stores it needs. A refusal leaves registers
 //! and both stores as they were; only a reply writes the reply buffer. Each
 //! function takes every input; a store of a wrong length is answered with
-//! [`Status::WRONG_LENGTH`], not with a panic.
+//! [`Status::LENGTH`], not with a panic.
 //!
 //! ```
 //! use dhikmarul::{build_command, read_reply, Registers, Status, Stores};
@@ -56,9 +56,9 @@ impl Status {
     /// A datagram that gets no reply: its length is not 9 or it is not ours.
     pub const NO_REPLY: Status = Status(0);
     /// The checksum is wrong.
-    pub const WRONG_CHECKSUM: Status = Status(1);
+    pub const CHECKSUM: Status = Status(1);
     /// The command is unknown or not built.
-    pub const UNKNOWN_COMMAND: Status = Status(2);
+    pub const UNKNOWN: Status = Status(2);
     /// The type is wrong, or the access is not allowed.
     pub const WRONG_TYPE: Status = Status(3);
     /// The motor, bank or value is wrong.
@@ -66,15 +66,15 @@ impl Status {
     /// The stored settings or the program are locked.
     pub const LOCKED: Status = Status(5);
     /// The command is not available now.
-    pub const NOT_AVAILABLE: Status = Status(6);
+    pub const NOT_NOW: Status = Status(6);
     /// A lent store or buffer has another length than it should.
-    pub const WRONG_LENGTH: Status = Status(20);
+    pub const LENGTH: Status = Status(20);
     /// A field of a sample is out of range.
-    pub const WRONG_SAMPLE: Status = Status(21);
+    pub const SAMPLE_RANGE: Status = Status(21);
     /// The budget is above 1,000.
-    pub const WRONG_BUDGET: Status = Status(22);
+    pub const BUDGET: Status = Status(22);
     /// A register handed in is out of range.
-    pub const WRONG_REGISTERS: Status = Status(23);
+    pub const HANDED_IN: Status = Status(23);
     /// Done.
     pub const DONE: Status = Status(100);
     /// Put in program memory.
@@ -82,7 +82,7 @@ impl Status {
 
     /// Whether a datagram answered with this number wrote a reply.
     pub const fn is_reply(self) -> bool {
-        !matches!(self, Status::NO_REPLY | Status::WRONG_LENGTH | Status::WRONG_REGISTERS)
+        !matches!(self, Status::NO_REPLY | Status::LENGTH | Status::HANDED_IN)
     }
 }
 
@@ -133,7 +133,7 @@ pub struct Reply {
 }
 
 /// One reading of the motor and of the inputs. Every field takes every
-/// number; those out of range are refused with [`Status::WRONG_SAMPLE`].
+/// number; those out of range are refused with [`Status::SAMPLE_RANGE`].
 #[derive(Clone, Copy, Debug, Default, PartialEq, Eq)]
 pub struct Sample {
     /// Parameter 51.
@@ -235,7 +235,7 @@ impl Default for Stores {
 /// The image of a board's registers: 137 numbers, named in [`place`].
 ///
 /// Any numbers may be handed in. An image the board cannot have is refused
-/// with [`Status::WRONG_REGISTERS`] by every event but power-up.
+/// with [`Status::HANDED_IN`] by every event but power-up.
 #[derive(Clone, Copy, Debug, PartialEq, Eq)]
 pub struct Registers(pub [i32; REGISTERS]);
 
@@ -252,7 +252,7 @@ impl Registers {
     /// ```
     /// use dhikmarul::{place, Registers, Status, Stores};
     /// let mut registers = Registers([-1; 137]);
-    /// assert_eq!(registers.power_up(&[0; 363]), Status::WRONG_LENGTH);
+    /// assert_eq!(registers.power_up(&[0; 363]), Status::LENGTH);
     /// assert_eq!(registers, Registers([-1; 137]));
     /// assert_eq!(registers.power_up(&Stores::new().cells), Status::DONE);
     /// assert_eq!(registers.0[place::MODULE_ADDRESS], 1);
@@ -284,7 +284,7 @@ impl Registers {
     /// assert_eq!(registers.sample(&sample), Status::DONE);
     /// assert_eq!(registers.0[place::axis(52).unwrap()], -5);
     /// let sample = Sample { temperature: 151, ..Sample::default() };
-    /// assert_eq!(registers.sample(&sample), Status::WRONG_SAMPLE);
+    /// assert_eq!(registers.sample(&sample), Status::SAMPLE_RANGE);
     /// ```
     pub fn sample(&mut self, sample: &Sample) -> Status {
         ffi::sample(&mut self.0, &sample.to_numbers())
@@ -307,7 +307,7 @@ impl Registers {
     /// let ran = registers.run(&stores.program, &mut stores.cells, 1000);
     /// assert_eq!(ran, Ran { status: Status::DONE, steps: 1000 });
     /// let ran = registers.run(&stores.program, &mut stores.cells, 1001);
-    /// assert_eq!(ran, Ran { status: Status::WRONG_BUDGET, steps: 0 });
+    /// assert_eq!(ran, Ran { status: Status::BUDGET, steps: 0 });
     /// ```
     pub fn run(&mut self, program: &[u8], cells: &mut [u8], budget: usize) -> Ran {
         ffi::run(&mut self.0, program, cells, budget)
@@ -321,7 +321,7 @@ impl Registers {
 /// let mut cells = [0xaa; 364];
 /// assert_eq!(new_cells(&mut cells), Status::DONE);
 /// assert_eq!(cells[..8], [0, 0, 0, 4, 0, 0, 7, 208]);
-/// assert_eq!(new_cells(&mut cells[..360]), Status::WRONG_LENGTH);
+/// assert_eq!(new_cells(&mut cells[..360]), Status::LENGTH);
 /// ```
 pub fn new_cells(cells: &mut [u8]) -> Status {
     ffi::new_cells(cells)
@@ -339,7 +339,7 @@ pub fn new_cells(cells: &mut [u8]) -> Status {
 /// program[0] = 23; // CSUB 0: calls itself until the stack is full
 /// program[7] = 28;
 /// let verdict = check(&program);
-/// assert_eq!(verdict, Verdict { status: Status::NOT_AVAILABLE, address: 0, depth: 8 });
+/// assert_eq!(verdict, Verdict { status: Status::NOT_NOW, address: 0, depth: 8 });
 /// ```
 pub fn check(program: &[u8]) -> Verdict {
     ffi::check(program)
@@ -371,7 +371,7 @@ pub fn build_command(
 /// let reply = read_reply(&[0x02, 0x01, 0x64, 0x06, 0x00, 0x01, 0x00, 0x00, 0x6e]);
 /// assert_eq!(reply.status, Status::DONE);
 /// assert_eq!((reply.command_status, reply.command, reply.value), (Status::DONE, 6, 65536));
-/// assert_eq!(read_reply(&[0x02]).status, Status::WRONG_LENGTH);
+/// assert_eq!(read_reply(&[0x02]).status, Status::LENGTH);
 /// ```
 pub fn read_reply(bytes: &[u8]) -> Reply {
     ffi::read_reply(bytes)

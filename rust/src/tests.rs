@@ -63,13 +63,13 @@ fn proved_table_values() {
 #[test]
 fn proved_table_checks() {
     let mut program = [0; PROGRAM_LENGTH];
-    let refused = Verdict { status: Status::UNKNOWN_COMMAND, address: 0, depth: 0 };
+    let refused = Verdict { status: Status::UNKNOWN, address: 0, depth: 0 };
     assert_eq!(check(&program), refused);
     program[..7].copy_from_slice(&record(28, 0, 0, 0));
     assert_eq!(check(&program), Verdict { status: Status::DONE, address: 0, depth: 0 });
     program[..7].copy_from_slice(&record(23, 0, 0, 0));
     program[7..14].copy_from_slice(&record(28, 0, 0, 0));
-    let refused = Verdict { status: Status::NOT_AVAILABLE, address: 0, depth: 8 };
+    let refused = Verdict { status: Status::NOT_NOW, address: 0, depth: 8 };
     assert_eq!(check(&program), refused);
 }
 
@@ -78,17 +78,17 @@ fn wrong_lengths_change_nothing() {
     let (mut registers, mut stores) = new_board();
     let before = (registers, stores.clone());
     let command = [1, 6, 0x38, 0, 0, 0, 0, 0, 0x3f];
-    let none = Answer { status: Status::WRONG_LENGTH, replied: false };
+    let none = Answer { status: Status::LENGTH, replied: false };
     let (program, cells, reply) = (&mut stores.program, &mut stores.cells, &mut stores.reply);
     assert_eq!(registers.datagram(&mut program[1..], cells, reply, &command), none);
     assert_eq!(registers.datagram(program, &mut [], reply, &command), none);
     assert_eq!(registers.datagram(program, cells, &mut reply[1..], &command), none);
-    let none = Ran { status: Status::WRONG_LENGTH, steps: 0 };
+    let none = Ran { status: Status::LENGTH, steps: 0 };
     assert_eq!(registers.run(&[], cells, 5), none);
     assert_eq!(registers.run(program, &mut cells[1..], 5), none);
-    let none = Verdict { status: Status::WRONG_LENGTH, address: 0, depth: 0 };
+    let none = Verdict { status: Status::LENGTH, address: 0, depth: 0 };
     assert_eq!(check(&program[1..]), none);
-    assert_eq!(build_command(&mut reply[1..], 1, 2, 3, 4, 5), Status::WRONG_LENGTH);
+    assert_eq!(build_command(&mut reply[1..], 1, 2, 3, 4, 5), Status::LENGTH);
     assert_eq!((registers, stores), before);
 }
 
@@ -121,9 +121,9 @@ fn registers_no_board_has_are_refused() {
         let (mut registers, mut stores) = new_board();
         registers.0[at] = value;
         let before = registers;
-        assert_eq!(registers.tick(), Status::WRONG_REGISTERS, "{}", place::name(at));
+        assert_eq!(registers.tick(), Status::HANDED_IN, "{}", place::name(at));
         let ran = registers.run(&stores.program, &mut stores.cells, 2000);
-        assert_eq!(ran, Ran { status: Status::WRONG_REGISTERS, steps: 0 });
+        assert_eq!(ran, Ran { status: Status::HANDED_IN, steps: 0 });
         assert_eq!(registers, before);
         assert_eq!(registers.power_up(&stores.cells), Status::DONE);
         assert_eq!(registers, new_board().0);

@@ -1,7 +1,11 @@
 // A session of a board on a serial line, as `virtual_board serial cells program` has it, and then what
 // the two image files hold: each cell that is not as on a new board, and each record that is not empty.
+// Before it comes a session with an image of five bytes, which is refused with 20: it takes nothing of the
+// line, and the five bytes are there afterwards.
 use libc::STDOUT_FILENO;
+use serial_board::CELLS;
 use serial_board::Loaded;
+use serial_board::PROGRAM;
 use std::num::wrapping_add_usize;
 
 // Whether two images have the same bytes from a place up to another.
@@ -95,9 +99,10 @@ fn fresh_cells(image: &mut [u8]) {
 
 fn put_images(out: &mut [u8; 65536], fresh: &mut [u8; 8192]) -> usize {
     let line = text::put(out, 0, b'\n');
-    let behind = put_file(out, line, b"program", 7168, b"record", fresh, 1024, 7);
+    let short = put_file(out, line, b"short", 5, b"short", fresh, 1, 5);
+    let behind = put_file(out, short, b"program", PROGRAM, b"record", fresh, 1024, 7);
     fresh_cells(fresh);
-    put_file(out, behind, b"cells", 364, b"cell", fresh, 91, 4)
+    put_file(out, behind, b"cells", CELLS, b"cell", fresh, 91, 4)
 }
 
 fn write(out: &[u8], end: usize) {
@@ -112,6 +117,7 @@ fn tell(out: &mut [u8; 65536], fresh: &mut [u8; 8192]) {
 }
 
 fn main() {
+    serial_board::serve(b"short", b"program");
     serial_board::serve(b"cells", b"program");
     let mut out = [0u8; 65536];
     let mut fresh = [0u8; 8192];

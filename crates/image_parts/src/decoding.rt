@@ -1,5 +1,5 @@
-// Registers from an image. A number that its register has no room for is cut to it: `is_image` says
-// beforehand whether there is one.
+// Registers from an image. A number that its register has no room for is cut to it: `image_range`
+// says beforehand whether there is one.
 ghost use mathlib.Core.Path.{_≡_};
 ghost use Rattle.image_parts.specs.Numbers as numbers;
 ghost use Rattle.image_parts.specs.Image as spec;

@@ -53,7 +53,7 @@ arrays v o m = record { values = v; outputs = o; store = m }
 -- STAP and STGP. Restore: "RSAP and RSGP take the cell as power-up does". Output: SIO. The others change no array.
 abbrev pub written : Effect → List ℤ → List ℕ → List ℕ → Arrays
 written (Refused s) v o m = arrays v o m
-written (Turn motion) v o m = arrays v o m
+written (Turn order velocity) v o m = arrays v o m
 written (Move w) v o m = arrays (setPosition v w) o m
 written (Set place w) v o m = arrays (setValue v place (w .v)) o m
 written (Global place w) v o m = arrays (setValue v place (w .v)) o (putCell m (cellOf rows place) (w .v))
@@ -67,7 +67,7 @@ written (Clear f) v o m = arrays v o m
 -- ---- the scalars
 abbrev pub changed : Effect → Core → Core
 changed (Refused s) c = c
-changed (Turn motion) c = withMotion motion c
+changed (Turn order velocity) c = withMotion (record { order = order; velocity = velocity }) c
 changed (Move w) c = toPosition c
 changed (Set place w) c = c
 changed (Global place w) c = c
@@ -81,7 +81,7 @@ changed (Clear f) c = withFlags f c
 -- ---- the status: done, unless it is a refusal
 abbrev pub statusOf : Effect → Status
 statusOf (Refused s) = s
-statusOf (Turn motion) = Done
+statusOf (Turn order velocity) = Done
 statusOf (Move w) = Done
 statusOf (Set place w) = Done
 statusOf (Global place w) = Done

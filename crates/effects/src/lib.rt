@@ -10,11 +10,13 @@ use registers::Order;
 use status::Status;
 use words::Word;
 
-// Values are named by their place.
+// Values are named by their place. A motion's two parts stand here one by one: a `Motion` moves in one
+// piece, which lies across the two words of `Numbers`, so that effects of every kind would be read in
+// other pieces than they were written in, and each step would wait for memory.
 pub enum Effect {
     Refused(Status),
-    // The motion order.
-    Turn(Motion),
+    // The motion order and its velocity.
+    Turn(Order, Word),
     // Position 50, and the order to go there.
     Move(Word),
     Set(usize, Word),
@@ -46,7 +48,7 @@ pub fn write(values: &mut [i32; 103], outputs: &mut [u8; 4], store: &mut [u8], e
 {
     match effect {
         Effect::Refused(_status) => {}
-        Effect::Turn(_motion) => {}
+        Effect::Turn(_order, _velocity) => {}
         Effect::Move(w) => values::put_value(values, places::axis_place(50), w),
         Effect::Set(place, w) => values::put_value(values, place, w),
         Effect::Global(place, w) => {
@@ -77,7 +79,10 @@ pub fn change(core: Core, effect: Effect) -> Core
 {
     match effect {
         Effect::Refused(_status) => core,
-        Effect::Turn(motion) => core.with_motion(motion),
+        Effect::Turn(order, velocity) => core.with_motion(Motion {
+            order: order,
+            velocity: velocity,
+        }),
         Effect::Move(_w) => core.with_motion(Motion {
             order: Order::Position,
             velocity: Word { v: 0 },
@@ -99,7 +104,7 @@ pub fn status_of(effect: Effect) -> Status
 {
     match effect {
         Effect::Refused(status) => status,
-        Effect::Turn(_motion) => Status::Done,
+        Effect::Turn(_order, _velocity) => Status::Done,
         Effect::Move(_w) => Status::Done,
         Effect::Set(_place, _w) => Status::Done,
         Effect::Global(_place, _w) => Status::Done,

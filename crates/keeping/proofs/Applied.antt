@@ -29,7 +29,7 @@ use Rattle.keeping.proofs.Settings.{Allowed, restored-allowed}
 -- an effect that keeps registers in range
 abbrev pub Good : Effect → Type 0
 Good (Refused s) = Unit {0}
-Good (Turn motion) = Unit {0}
+Good (Turn order velocity) = Unit {0}
 Good (Move w) = Allowed (axisPlace 50) (w .v)
 Good (Set place w) = Allowed place (w .v)
 Good (Global place w) = Allowed place (w .v)
@@ -69,7 +69,7 @@ module _ (x : State) (s : Sound x) where
   pub applied-sound : (e : Effect) → Good e → Sound (leaves (applied e (x .core) (x .values) (x .outputs) (x .store)) (x .entries))
   unfolding coreInRange
   applied-sound (Refused r) g = s
-  applied-sound (Turn motion) g = with-core _ _ (s .core)
+  applied-sound (Turn order velocity) g = with-core _ _ (s .core)
   applied-sound (Move w) g = with-value _ (axisPlace 50) (w .v) _ (s .core) g
   applied-sound (Set place w) g = with-value _ place (w .v) _ (s .core) g
   applied-sound (Global place w) g = with-value _ place (w .v) _ (s .core) g
@@ -91,7 +91,7 @@ module _ (x : State) (s : Sound x) where
 module _ (c : Core) (v : List ℤ) (o m : List ℕ) where
   pub applied-store : (e : Effect) → length (applied e c v o m .store) ≡ length m
   applied-store (Refused s) = refl
-  applied-store (Turn motion) = refl
+  applied-store (Turn order velocity) = refl
   applied-store (Move w) = refl
   applied-store (Set place w) = refl
   applied-store (Global place w) = cell-length m (cellOf rows place) (w .v)
@@ -106,7 +106,7 @@ module _ (c : Core) (v : List ℤ) (o m : List ℕ) where
 pub applied-refused : (x : State) (e : Effect) → isDone (applied e (x .core) (x .values) (x .outputs) (x .store) .status) ≡ false
     → leaves (applied e (x .core) (x .values) (x .outputs) (x .store)) (x .entries) ≡ x
 applied-refused x (Refused s) h = refl
-applied-refused x (Turn motion) h = absurd (true≢false h)
+applied-refused x (Turn order velocity) h = absurd (true≢false h)
 applied-refused x (Move w) h = absurd (true≢false h)
 applied-refused x (Set place w) h = absurd (true≢false h)
 applied-refused x (Global place w) h = absurd (true≢false h)

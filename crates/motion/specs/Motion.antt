@@ -24,7 +24,7 @@ unfoldable pub withinLimit : ℤ → ℤ → Bool
 withinLimit limit v = inRange (negℤ limit) limit v
 
 abbrev pub turn : ℤ → Effect
-turn v = Turn (record { order = Velocity; velocity = word v })
+turn v = Turn Velocity (word v)
 
 unfoldable pub rightWithin : ℤ → ℤ → Effect
 rightWithin limit v = pick (withinLimit limit v) (turn v) (Refused Value)
@@ -33,7 +33,7 @@ unfoldable pub leftWithin : ℤ → ℤ → Effect
 leftWithin limit v = pick (withinLimit limit v) (turn (negℤ v)) (Refused Value)
 
 abbrev pub stop : Effect
-stop = Turn (record { order = Stopped; velocity = word (pos 0) })
+stop = Turn Stopped (word (pos 0))
 
 -- "must fit 32 bits"
 abbrev pub isWord : ℤ → Bool

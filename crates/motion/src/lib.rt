@@ -3,7 +3,6 @@ ghost use mathlib.Core.Path.{_≡_};
 ghost use lib.IntN.{_+ℤ_};
 ghost use Rattle.motion.specs.Motion as spec;
 use effects::Effect;
-use registers::Motion;
 use registers::Order;
 use status::Status;
 use words::Word;
@@ -27,10 +26,7 @@ fn parameter(values: &[i32; 103], number: u8) -> Word
 fn turn(velocity: Word) -> Effect
     ensures { λ r. ⌜ r ≡ spec.turn (velocity .v) ⌝ }
 {
-    Effect::Turn(Motion {
-        order: Order::Velocity,
-        velocity: velocity,
-    })
+    Effect::Turn(Order::Velocity, velocity)
 }
 
 fn right_within(limit: Word, velocity: Word) -> Effect
@@ -72,10 +68,7 @@ pub fn left(velocity: Word, values: &[i32; 103]) -> Effect
 pub fn stop() -> Effect
     ensures { λ r. ⌜ r ≡ spec.stop ⌝ }
 {
-    Effect::Turn(Motion {
-        order: Order::Stopped,
-        velocity: Word { v: 0 },
-    })
+    Effect::Turn(Order::Stopped, Word { v: 0 })
 }
 
 // Whether a number is a word.

@@ -49,7 +49,7 @@ record Good (program : List ℕ) (r : Command) (y : After) : Type 0 where
 -- ---- no effect moves the program
 pub place-kept : (P : ℕ → ℕ → Type 0) (e : Effect) (c : Core) → P (c .address) (c .depth) → P (changed e c .address) (changed e c .depth)
 place-kept P (effect.Refused s) c h = h
-place-kept P (effect.Turn motion) c h = h
+place-kept P (effect.Turn order velocity) c h = h
 place-kept P (effect.Move w) c h = h
 place-kept P (effect.Set place w) c h = h
 place-kept P (effect.Global place w) c h = h

@@ -3,6 +3,9 @@
 // No function requires anything of a depth: a push without room and a pop of nothing hand back what
 // they were given.
 ghost use mathlib.Core.Path.{_≡_};
+ghost use lib.Dec.{eqb};
+ghost use lib.ListN.{set};
+ghost use Rattle.words.specs.Word.{pick};
 ghost use Rattle.stack.specs.Laws.{Laws};
 ghost use Rattle.stack.specs.Stack.{emptied, pushed, popped};
 
@@ -27,17 +30,38 @@ pub fn empty() -> Stack
     }
 }
 
+// The entry of a place, once an address goes to some place.
+fn entry_with(place: u8, entry: u16, at: u8, address: u16) -> u16
+    ensures { λ r. ⌜ r ≡ pick (eqb place at) address entry ⌝ }
+{
+    if place == at { address } else { entry }
+}
+
+// The entries with an address at a place. All eight are made anew, which the compiler does in one
+// machine register; after a store of one of them, a load of all eight would wait for memory.
+fn with_entry(entries: [u16; 8], at: u8, address: u16) -> [u16; 8]
+    ensures { λ r. ⌜ r ≡ set entries at address ⌝ }
+{
+    [
+        entry_with(0, entries[0], at, address),
+        entry_with(1, entries[1], at, address),
+        entry_with(2, entries[2], at, address),
+        entry_with(3, entries[3], at, address),
+        entry_with(4, entries[4], at, address),
+        entry_with(5, entries[5], at, address),
+        entry_with(6, entries[6], at, address),
+        entry_with(7, entries[7], at, address),
+    ]
+}
+
 // Puts a return address on the stack, or hands the stack back as it was where it is full.
 pub fn push(entries: [u16; 8], depth: u8, back: u16) -> Stack
     ensures { λ r. ⌜ r ≡ pushed entries depth back ⌝ }
 {
     if depth < 8 {
         let deeper = depth + 1;
-        let at = depth as usize;
-        let mut changed = entries;
-        changed[at] = back;
         Stack {
-            entries: changed,
+            entries: with_entry(entries, depth, back),
             depth: deeper,
         }
     } else {
@@ -57,11 +81,9 @@ pub fn pop(entries: [u16; 8], depth: u8) -> Popped
         let less = depth - 1;
         let at = less as usize;
         let back = entries[at];
-        let mut changed = entries;
-        changed[at] = 0;
         Popped {
             stack: Stack {
-                entries: changed,
+                entries: with_entry(entries, less, 0),
                 depth: less,
             },
             back: back,

@@ -10,8 +10,8 @@ use Rattle.stack.proofs.pop.Tie as tie
 returns : tie.Need-returns
 unfolding popped
 returns c =
-    let d = c .before .before .args .depth in
-    simp (lt-ltb 0 d (c .before .if1 .taken), c .if2 .taken)
+    let b2 = c .before .before in
+    simp (lt-ltb 0 (b2 .before .args .depth) (b2 .if1 .taken), c .before .if2 .taken, c .with-entry .ensures)
 
 returns-2 : tie.Need-returns-2
 unfolding popped
@@ -30,7 +30,6 @@ pop-spec =
     (λ c. search needs)
     (λ c. search needs)
     (λ c. omega (arith, leb-true (c .before .before .args .depth) 8 (c .if2 .taken)))
-    (λ c. search needs)
-    (λ c. omega (arith, leb-true (c .before .before .args .depth) 8 (c .if2 .taken)))
+    (λ c κs. search needs)
     returns
     returns-2)

@@ -1,8 +1,8 @@
 // The board for C and Rust: every event, the program check and the display's side under names of C.
 //
 // `include/dhikmarul.h` says what each argument and each number is. A slice is a pointer and a length; an
-// array of known length is a pointer alone. Each function does what the one of its name in `numbered`
-// does, and takes every input.
+// array of known length is a pointer alone. Each function does what the one of its name does in
+// `image_events`, `image_datagrams`, `image_runs` or `numbered`, and takes every input.
 ghost use mathlib.Core.Path.{_≡_};
 ghost use Rattle.image_events.specs.Events as events;
 ghost use Rattle.image_datagrams.specs.Datagram as datagrams;

@@ -1,7 +1,5 @@
-// The board by numbers: its events over an image of the registers, the program check and the display's
-// side, each answering document 01's numbers, for callers that have no struct and no enum of ours.
-//
-// An image with a number that its register has no room for is registers handed in out of range: 23.
+// The program check and the display's side, each answering document 01's numbers, for callers that have
+// no struct and no enum of ours.
 mod host;
 mod verdicts;
 

@@ -1,0 +1,4 @@
+pub mod Places
+pub mod With
+pub mod Image
+pub mod Rows

@@ -1,0 +1,4 @@
+pub mod Turn
+pub mod Deed
+pub mod Settled
+pub mod Decides

@@ -41,6 +41,10 @@ module _ (k : ℕ) (c : Command) (s : Status) (j : judged (numbered k c) ≡ s) 
   unfolding turned doing
   refuses e u d = rw (j, u, d, e)
 
+  pub drops : eqb k 27 ≡ true → isUnknown s ≡ false → isDone s ≡ false → doing (Dropped s) r m ≡ turned (numbered k c) r m
+  unfolding turned doing
+  drops e u d = rw (j, u, d, e)
+
   -- what it lets through is carried out
   pub passes : isDone s ≡ true → turned (numbered k c) r m ≡ through (numbered k c) r m
   unfolding turned

@@ -5,7 +5,7 @@ use mathlib.Core.List.{List}
 use lib.Dec.{eqb, ltb}
 use lib.IntN.{ℤ, pos}
 use lib.ListN.{getD}
-use Rattle.words.specs.Word.{pick, word}
+use Rattle.words.specs.Word.{pick, word, ofBits}
 use Rattle.words.specs.declared.Word.{Word}
 use Rattle.wire.specs.declared.Command.{Command}
 use Rattle.values.specs.Values.{valueAt}
@@ -13,8 +13,9 @@ use Rattle.sheet.specs.Places.{axisPlace}
 use Rattle.settings.specs.Settings.{bankPlace}
 use Rattle.registers.specs.declared.Core.{Core}
 
+-- the word that has the bits of a register's number
 abbrev pub number : ℕ → Word
-number n = word (pos n)
+number n = word (ofBits n)
 
 abbrev pub bit : Bool → Word
 bit on = pick on (number 1) (number 0)

@@ -142,5 +142,6 @@ fn parameters_in_range(image: &[u32; REGISTERS]) -> bool
 pub fn in_range(image: &[u32; REGISTERS]) -> bool
     ensures { λ r. ⌜ r ≡ stands (now (image .entry)) ⌝ }
 {
-    of_its_kind(image) & (addresses_in_range(image) & pins_in_range(image) & parameters_in_range(image))
+    of_its_kind(image)
+        & (addresses_in_range(image) & pins_in_range(image) & parameters_in_range(image))
 }

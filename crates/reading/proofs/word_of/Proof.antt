@@ -9,7 +9,7 @@ use Rattle.reading.proofs.word_of.Statement.{statement}
 use Rattle.reading.proofs.word_of.Tie as tie
 
 returns : tie.Need-returns
-returns c = ap word (toZ-pos w32 (c .args .n) (omega (arith, c .fits .n .fits)))
+returns c = search needs
 
 pub word-of-spec : {M : Type 1} → statement M
 word-of-spec = tie.close (tie.spec (λ c. search needs) returns)

@@ -5,7 +5,7 @@ use Rattle.reg_range.proofs.allowed_at.Statement.{statement}
 use Rattle.reg_range.proofs.allowed_at.Tie as tie
 
 returns : tie.Need-returns
-returns c = 
+returns c =
     let s = c .before .before .before in
     simp (c .allowed .ensures, c .before .before .row-at .ensures, c .before .value .ensures, lt-ltb (s .args .place) 103 (s .pre))
 

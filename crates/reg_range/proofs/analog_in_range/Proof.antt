@@ -14,7 +14,7 @@ use Rattle.reg_range.proofs.analog_in_range.Tie as tie
 
 returns : tie.Need-returns
 unfolding registersOf eachUpTo
-returns c = 
+returns c =
     let l = c .before .before .before .before .before .before .before .before .args .image .now in
     let n : length l ≡ 137 = search needs in
     simp (

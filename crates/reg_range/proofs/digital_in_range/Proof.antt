@@ -12,7 +12,7 @@ use Rattle.reg_range.proofs.digital_in_range.Tie as tie
 
 returns : tie.Need-returns
 unfolding registersOf bitsInRange
-returns c = 
+returns c =
     let l = c .before .before .before .before .args .image .now in
     let n : length l ≡ 137 = search needs in
     simp (every-part bitInRange l 20 2 (omega arith), and-true)

@@ -8,7 +8,7 @@ use Rattle.reg_range.proofs.eight_allowed.Statement.{statement}
 use Rattle.reg_range.proofs.eight_allowed.Tie as tie
 
 returns : tie.Need-returns
-returns c = 
+returns c =
     let x = c .before .before .before .before .before .before .before .before .args in
     eight-found (allowedAt rows (registersOf (x .image .now) .values)) (x .place) (c .before .before .before .before .before .before .before .allowed-at .ensures) (c .before .before .before .before .before .before .allowed-at2 .ensures) (c .before .before .before .before .before .allowed-at3 .ensures) (c .before .before .before .before .allowed-at4 .ensures) (c .before .before .before .allowed-at5 .ensures) (c .before .before .allowed-at6 .ensures) (c .before .allowed-at7 .ensures) (c .allowed-at8 .ensures)
 

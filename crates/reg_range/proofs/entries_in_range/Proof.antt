@@ -12,7 +12,7 @@ use Rattle.reg_range.proofs.entries_in_range.Tie as tie
 
 returns : tie.Need-returns
 unfolding registersOf entriesInRange
-returns c = 
+returns c =
     let l = c .before .before .before .before .before .before .before .before .before .before .args .image .now in
     let n : length l ≡ 137 = search needs in
     simp (every-part addressInRange l 26 8 (omega arith), and-assoc, and-true)

@@ -7,7 +7,7 @@ use Rattle.reg_range.proofs.in_range.Tie as tie
 
 returns : tie.Need-returns
 unfolding stands registersInRange
-returns c = 
+returns c =
     simp (
       c .before .before .before .of-its-kind .ensures,
       c .before .before .addresses-in-range .ensures,

@@ -8,7 +8,7 @@ use Rattle.reg_range.proofs.of_its_kind.Statement.{statement}
 use Rattle.reg_range.proofs.of_its_kind.Tie as tie
 
 returns : tie.Need-returns
-returns c = 
+returns c =
     let l = c .before .before .before .before .before .before .before .before .before .args .image .now in
     let n : length l ≡ 137 = search needs in
     rw (shaped-places l n) (simp (and-assoc, and-true))

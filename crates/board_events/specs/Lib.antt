@@ -1,0 +1,4 @@
+pub mod Standing
+pub mod Events
+pub mod Parts
+pub mod Filling

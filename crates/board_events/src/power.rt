@@ -1,0 +1,79 @@
+// Power-up.
+//
+// The image may hold anything before: it is cleared, and then each working value is put to its place.
+ghost use Prim.Native.Nat.{_+_, _≤_, _<_};
+ghost use Rattle.board.specs.Registers.{unpowered, powered};
+ghost use Rattle.board_events.specs.Standing.{Is, Told};
+ghost use Rattle.board_events.specs.Events as spec;
+ghost use Rattle.board_events.specs.Filling.{Fills};
+use reg_image::REGISTERS;
+use words::Word;
+
+// Every register 0, "equal", "stopped".
+fn clear(image: &mut [u32; REGISTERS])
+    ensures { λ _. ⌜ Is (now (image .exit)) unpowered ⌝ }
+{
+    *image = [0u32; REGISTERS];
+}
+
+// The working value at a place, from its cell or by default.
+fn fill(image: &mut [u32; REGISTERS], cells: &[u8], place: usize)
+    requires { ⌜ place < 103 ⌝ }
+    ensures { λ _. ⌜ Fills (now (cells .entry)) place (place + 1) (now (image .entry)) (now (image .exit)) ⌝ }
+{
+    reg_image::set_value(image, place, values::powered_value(cells, place));
+}
+
+// The eight values from a place on. Callers name the place: so the compiler knows each row.
+fn fill_eight(image: &mut [u32; REGISTERS], cells: &[u8], place: usize)
+    requires { ⌜ place + 8 ≤ 103 ⌝ }
+    ensures { λ _. ⌜ Fills (now (cells .entry)) place (place + 8) (now (image .entry)) (now (image .exit)) ⌝ }
+{
+    fill(image, cells, place);
+    fill(image, cells, place + 1);
+    fill(image, cells, place + 2);
+    fill(image, cells, place + 3);
+    fill(image, cells, place + 4);
+    fill(image, cells, place + 5);
+    fill(image, cells, place + 6);
+    fill(image, cells, place + 7);
+}
+
+// The 47 parameters and the first user variable.
+fn fill_parameters(image: &mut [u32; REGISTERS], cells: &[u8])
+    ensures { λ _. ⌜ Fills (now (cells .entry)) 0 48 (now (image .entry)) (now (image .exit)) ⌝ }
+{
+    fill_eight(image, cells, 0);
+    fill_eight(image, cells, 8);
+    fill_eight(image, cells, 16);
+    fill_eight(image, cells, 24);
+    fill_eight(image, cells, 32);
+    fill_eight(image, cells, 40);
+}
+
+// The other user variables: each takes its cell as it is.
+fn fill_user(image: &mut [u32; REGISTERS], cells: &[u8])
+    ensures { λ _. ⌜ Fills (now (cells .entry)) 48 103 (now (image .entry)) (now (image .exit)) ⌝ }
+{
+    let mut place = 48;
+    while place < 103 {
+        fill(image, cells, place);
+        place += 1;
+    }
+}
+
+// 20 for a store of another length; else the whole image is written, whatever it held.
+pub fn power_up(image: &mut [u32; REGISTERS], cells: &[u8]) -> u8
+    ensures { λ r. ⌜ Told (spec.powerStatus (now (cells .entry))) (powered (now (cells .entry))) (now (image .entry)) (now (image .exit)) r ⌝ }
+{
+    if !store::is_parameter_store(cells) {
+        return 20;
+    }
+    clear(image);
+    fill_parameters(image, cells);
+    fill_user(image, cells);
+    // Global 77.
+    let starts = order::equals(reg_image::value(image, 46), Word { v: 1 });
+    reg_image::set_running(image, starts);
+    100
+}

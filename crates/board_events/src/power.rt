@@ -51,7 +51,7 @@ fn fill_parameters(image: &mut [u32; REGISTERS], cells: &[u8])
     fill_eight(image, cells, 40);
 }
 
-// The other user variables: each takes its cell as it is.
+// The other user variables. Their row is one, so that the compiler takes each cell as it is.
 fn fill_user(image: &mut [u32; REGISTERS], cells: &[u8])
     ensures { λ _. ⌜ Fills (now (cells .entry)) 48 103 (now (image .entry)) (now (image .exit)) ⌝ }
 {

@@ -21,13 +21,14 @@ use Rattle.status.specs.declared.Status.the-variants.{Value, Locked}
 use Rattle.judge.specs.Judge.{judged, isFlow, isReading}
 use Rattle.registers.specs.declared.Order.the-variants.{Velocity}
 use Rattle.motion.specs.Motion.{parameter, withinLimit, rightWithin, leftWithin, isWord, moveBy, moveTo}
+use Rattle.reading.specs.Reading.{read}
 use Rattle.effects.specs.Effects.{applied}
 use Rattle.effects.specs.declared.Effect.{Effect}
 use Rattle.effects.specs.declared.Effect.the-variants as effect
 use Rattle.deciding.specs.Deciding.{decided, worked}
 use Rattle.board.specs.declared.Registers.{Registers}
 use Rattle.cmd_turns.specs.Turn.{Turn, work, through, turned}
-use Rattle.cmd_turns.specs.declared.Deed.the-variants.{Refused, Order, Move, Set}
+use Rattle.cmd_turns.specs.declared.Deed.the-variants.{Refused, Number, Order, Move, Set}
 use Rattle.cmd_turns.specs.Deed.{doing}
 use Rattle.cmd_turns.specs.Decides.{numbered}
 use Rattle.cmd_turns.proofs.Decides.{known, refuses, passes}
@@ -46,6 +47,14 @@ module _ (k : ℕ) (c : Command) (f : isFlow k ≡ false) (g : isReading k ≡ f
   carries {s = s} j q h =
       ap (λ (x : Effect). carried x r m) (sym h) ∙ sym worked-through ∙ sym (passes k c s j r m q)
 
+-- a command that reads loads what it reads
+pub loads :
+    (k : ℕ) (c : Command) (r : Registers) (m : List ℕ) {s : Status} → isFlow k ≡ false → isReading k ≡ true → judged (numbered k c) ≡ s
+    → isDone s ≡ true
+    → doing (Number (read (numbered k c) (r .core) (r .values) (r .outputs) (r .digital) (r .analog))) r m ≡ turned (numbered k c) r m
+unfolding doing through
+loads k c r m {s = s} f g j q = rw (passes k c s j r m q, f, g)
+
 -- what its bytes refuse is refused
 pub refused :
     (k : ℕ) (c : Command) (r : Registers) (m : List ℕ) {s : Status} {t : Bool} (motor kind value : Bool)
@@ -54,7 +63,7 @@ pub refused :
 refused k c r m {s = s} {t = t} motor kind value e j q h n =
     refuses k c s (j ∙ sym e) r m n (ap isUnknown e ∙ known true motor kind value true) (sym q ∙ not-true t h)
 
--- what they do not refuse is let through, and has a right type
+-- what they do not refuse is let through, and has a right motor or bank and a right type
 pub passed : {t done : Bool} → t ≡ done → not t ≡ false → done ≡ true
 passed {t = t} e h = sym e ∙ not-false t h
 
@@ -62,6 +71,10 @@ pub right-type : (motor kind value : Bool) → isDone (byBytes motor kind value)
 right-type true true value h = refl
 right-type true false value h = absurd (is-T false h)
 right-type false kind value h = absurd (is-T false h)
+
+pub right-motor : (motor kind value : Bool) → isDone (byBytes motor kind value) ≡ true → motor ≡ true
+right-motor true kind value h = refl
+right-motor false kind value h = absurd (is-T false h)
 
 -- ---- an axis parameter that is set
 pub on-axis : (n : ℕ) → writable n ≡ true → axisPlace n < 43

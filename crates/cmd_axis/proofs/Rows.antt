@@ -1,5 +1,5 @@
 -- The places that the code names, and how low places and cells are. Assumes nothing.
-use Prim.Native.Nat.{ℕ, zero, suc, _≤_, _<_}
+use Prim.Native.Nat.{ℕ, zero, suc, _≤_}
 use native.Mathlib.Omega.{arith}
 use mathlib.Core.Path.{_≡_, refl}
 use mathlib.Core.Bool.{Bool, true, false}
@@ -9,7 +9,7 @@ use Rattle.words.specs.Word.{pick}
 use Rattle.rows.specs.Row.{stored}
 use Rattle.rows.specs.declared.Row.{Row}
 use Rattle.sheet.specs.Sheet.{axis, globals, readOnly, rweRows, rwRows, rRows}
-use Rattle.sheet.specs.Rows.{rows, cells, cellOf}
+use Rattle.sheet.specs.Rows.{cells, cellOf}
 use Rattle.sheet.specs.Places.{axisPlace}
 use Rattle.settings.specs.Settings.{bankPlace}
 

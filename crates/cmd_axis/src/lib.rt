@@ -10,7 +10,7 @@ ghost use Rattle.registers.specs.declared.Order.the-variants.{Velocity};
 ghost use Rattle.motion.specs.Motion.{withinLimit, isWord};
 ghost use Rattle.board.specs.declared.Registers.{Registers};
 ghost use Rattle.reg_image.specs.Image.{registersOf};
-ghost use Rattle.cmd_turns.specs.declared.Deed.the-variants.{Refused, Order, Move, Set};
+ghost use Rattle.cmd_turns.specs.declared.Deed.the-variants as deed;
 ghost use Rattle.cmd_turns.specs.Decides.{Always, From, Stored};
 use cmd_turns::Deed;
 use reg_image::REGISTERS;
@@ -53,7 +53,7 @@ fn within_limit(velocity: Word, limit: Word) -> bool
 }
 
 fn right_within(velocity: Word, limit: Word) -> Deed
-    ensures { λ r. ⌜ r ≡ pick (withinLimit (limit .v) (velocity .v)) (Order Velocity velocity) (Refused Value) ⌝ }
+    ensures { λ r. ⌜ r ≡ pick (withinLimit (limit .v) (velocity .v)) (deed.Order Velocity velocity) (deed.Refused Value) ⌝ }
 {
     if within_limit(velocity, limit) {
         Deed::Order(Order::Velocity, velocity)
@@ -64,7 +64,7 @@ fn right_within(velocity: Word, limit: Word) -> Deed
 
 // Negated once it is known to be within the limit.
 fn left_within(velocity: Word, limit: Word) -> Deed
-    ensures { λ r. ⌜ r ≡ pick (withinLimit (limit .v) (velocity .v)) (Order Velocity (word (negℤ (velocity .v)))) (Refused Value) ⌝ }
+    ensures { λ r. ⌜ r ≡ pick (withinLimit (limit .v) (velocity .v)) (deed.Order Velocity (word (negℤ (velocity .v)))) (deed.Refused Value) ⌝ }
 {
     if within_limit(velocity, limit) {
         Deed::Order(Order::Velocity, Word { v: -velocity.v })
@@ -122,7 +122,7 @@ fn sum_is_word(a: Word, b: Word) -> bool
 
 // Adds to the actual position.
 fn move_by(value: Word, actual: Word) -> Deed
-    ensures { λ r. ⌜ r ≡ pick (isWord (actual .v +ℤ value .v)) (Move (word (actual .v +ℤ value .v))) (Refused Value) ⌝ }
+    ensures { λ r. ⌜ r ≡ pick (isWord (actual .v +ℤ value .v)) (deed.Move (word (actual .v +ℤ value .v))) (deed.Refused Value) ⌝ }
 {
     if sum_is_word(actual, value) {
         Deed::Move(wrapping::add(actual, value))
@@ -139,15 +139,16 @@ pub fn mvp(c: Command, image: &[u32; REGISTERS]) -> Deed
     if !judged.is_done() {
         return Deed::Refused(judged);
     }
+    let value = c.value;
     if c.kind == 0 {
-        return Deed::Move(c.value);
+        return Deed::Move(value);
     }
-    move_by(c.value, reg_image::value(image, ACTUAL))
+    move_by(value, reg_image::value(image, ACTUAL))
 }
 
 // Setting 50 acts as MVP ABS.
 fn set_axis(place: usize, w: Word) -> Deed
-    ensures { λ r. ⌜ (place < 43 → r ≡ pick (eqb place 7) (Move w) (Set place w)) ⌝ }
+    ensures { λ r. ⌜ (place < 43 → r ≡ pick (eqb place 7) (deed.Move w) (deed.Set place w)) ⌝ }
 {
     if place == POSITION {
         return Deed::Move(w);
@@ -204,7 +205,10 @@ pub fn stap(c: Command, image: &[u32; REGISTERS]) -> Deed
         return Deed::Refused(Status::Locked);
     }
     let place = places::axis_place(c.kind);
-    Deed::Store(narrow(sheet::cell_of(place)), reg_image::value(image, place))
+    Deed::Store(
+        narrow(sheet::cell_of(place)),
+        reg_image::value(image, place),
+    )
 }
 
 // RSAP takes the cell as power-up does.

@@ -45,3 +45,9 @@ pub enum Deed {
     // The command is unknown.
     Nothing,
 }
+
+// What a command of direct mode, or a control command, answers.
+pub struct Obeyed {
+    pub status: Status,
+    pub value: Word,
+}

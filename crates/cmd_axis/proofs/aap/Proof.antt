@@ -1,10 +1,9 @@
 -- `cmd_axis::aap` meets its contract. Assumes nothing.
 use Prim.Native.Nat.{ℕ, _<_}
 use mathlib.Core.Path.{_≡_, refl, sym, ap, _∙_}
-use mathlib.Core.Bool.{true, false}
+use mathlib.Core.Bool.{true}
 use borrow.Author.Tests.{not-true, not-false}
 use Rattle.status.specs.Status.{isDone}
-use Rattle.sheet.specs.Places.{axisPlace}
 use Rattle.settings.specs.Settings.{settable}
 use Rattle.fields.specs.Fields as fields
 use Rattle.judge.specs.Judge.{judged, isFlow, isReading}
@@ -52,9 +51,9 @@ returns-3 c regs n m =
     let r = seen w n regs in
     let done : isDone (g .result) ≡ true = passed (d .is-done .ensures) (i .if1 .left) in
     let low : p .result < 43 =
-        rw (p .ensures)
-        (on-axis (x .c .kind)
-        (right-type (fields.motorZero (x .c)) (fields.writable (x .c .kind)) true (ap isDone (sym (g .ensures)) ∙ done))) in
+    rw (p .ensures)
+    (on-axis (x .c .kind)
+    (right-type (fields.motorZero (x .c)) (fields.writable (x .c .kind)) true (ap isDone (sym (g .ensures)) ∙ done))) in
     ap (λ (d : Deed). doing d r m) (c .set-axis .ensures low)
     ∙ sets (p .result) w r m low
     ∙ carries 34 (x .c) refl refl r m (sym (g .ensures)) done

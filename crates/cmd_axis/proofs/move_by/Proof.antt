@@ -1,7 +1,7 @@
 -- `cmd_axis::move_by` meets its contract. Assumes nothing.
 use mathlib.Core.Path.{_≡_, sym, ap, _∙_}
 use mathlib.Core.Bool.{true}
-use lib.IntN.{ℤ, _+ℤ_}
+use lib.IntN.{_+ℤ_}
 use Rattle.words.specs.Word.{word}
 use Rattle.wrapping.proofs.Wraps.{wrap-stays}
 use Rattle.motion.specs.Motion.{isWord}

@@ -35,10 +35,10 @@ returns-2 c regs a n m =
     let r = seen a n regs in
     let done : isDone (g .result) ≡ true = passed (d .is-done .ensures) (i .if1 .left) in
     let low : p .result < 43 =
-        rw (p .ensures)
-        (on-axis (x .kind)
-        (right-type (fields.motorZero x) (fields.writable (x .kind)) (settable (axisPlace (x .kind)) (x .value .v))
-        (ap isDone (sym (g .ensures)) ∙ done))) in
+    rw (p .ensures)
+    (on-axis (x .kind)
+    (right-type (fields.motorZero x) (fields.writable (x .kind)) (settable (axisPlace (x .kind)) (x .value .v))
+    (ap isDone (sym (g .ensures)) ∙ done))) in
     ap (λ (d : Deed). doing d r m) (c .set-axis .ensures low)
     ∙ sets (p .result) (x .value) r m low
     ∙ carries 5 x refl refl r m (sym (g .ensures)) done (ap (λ (k : ℕ). assign k (x .value) (r .values)) (sym (p .ensures)))

@@ -1,8 +1,6 @@
 -- `cmd_axis::set_axis` meets its contract. Assumes nothing.
 use native.Mathlib.Omega.{arith}
-use mathlib.Core.Path.{ap}
 use borrow.Author.Tests.{eq-eqb, ne-eqb}
-use Rattle.cmd_turns.specs.declared.Deed.the-variants.{Set}
 use borrow.Author.Needs.{needs}
 use Rattle.cmd_axis.proofs.set_axis.Statement.{statement}
 use Rattle.cmd_axis.proofs.set_axis.Tie as tie

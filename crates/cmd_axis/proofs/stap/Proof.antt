@@ -50,9 +50,9 @@ returns-3 c a n m =
     let x = d .before .before .args in
     let r = seen a n (registersOf (x .image .now)) in
     let cell : c .before .narrow .result ≡ cellOf rows (p .result) =
-        c .before .narrow .ensures
-        (omega (arith, e .ensures, cell-low rows (p .result), p .ensures, place-low axis (x .c .kind), axis-rows))
-        ∙ e .ensures in
+    c .before .narrow .ensures
+    (omega (arith, e .ensures, cell-low rows (p .result), p .ensures, place-low axis (x .c .kind), axis-rows))
+    ∙ e .ensures in
     ap (λ (k : ℕ). doing (Store k (c .value .result)) r m) cell
     ∙ ap (λ (w : Word). doing (Store (cellOf rows (p .result)) w) r m) (c .value .ensures)
     ∙ carries 7 (x .c) refl refl r m (sym (g .ensures)) (passed (d .is-done .ensures) (i .if1 .left))

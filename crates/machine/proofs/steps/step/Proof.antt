@@ -1,0 +1,43 @@
+-- `machine::steps::step` meets its contract. Assumes nothing.
+use native.Mathlib.Omega.{arith}
+use Prim.Native.Nat.{_<_}
+use mathlib.Core.Path.{refl, _∙_}
+use borrow.Author.Tests.{le-leb, lt-leb, lt-ltb}
+use Rattle.machine.specs.Steps.{stepTurn}
+use borrow.Author.Needs.{needs}
+use Rattle.machine.proofs.steps.step.Statement.{statement}
+use Rattle.machine.proofs.steps.step.Tie as tie
+
+returns : tie.Need-returns
+unfolding stepTurn
+returns c = record { makes = simp (le-leb _ _ (c .if1 .taken)); stays = λ t. t }
+
+decide-requires : tie.Need-decide-requires
+decide-requires c κs =
+    let i = c .before .before .before in
+    let x = i .before .before .before in
+    let h : x .args .address < 1024 = omega (arith, i .if1 .left, x .pre .1) in
+    (omega (arith, i .if1 .left, x .pre .0), refl, rw (lt-ltb (x .args .address) 1024 h))
+
+returns-2 : tie.Need-returns-2
+unfolding stepTurn
+returns-2 c =
+    let a = c .before .before in
+    let d = a .before .before .before in
+    let i = d .before .before .before .before in
+    record { makes = simp (lt-leb _ _ (i .if1 .left)) (a .apply .ensures .makes ∙ d .decide .ensures); stays = a .apply .ensures .stays }
+
+pub step-spec : {M : Type 1} → statement M
+step-spec =
+    tie.close
+    (tie.spec
+    returns
+    (λ c. search needs)
+    (λ c. search needs)
+    (λ c. search needs)
+    (λ c. search needs)
+    (λ c. search needs)
+    decide-requires
+    (λ c κs. search needs)
+    (λ c. search needs)
+    returns-2)

@@ -1,0 +1,4 @@
+pub mod Placing
+pub mod Carried
+pub mod Defaults
+pub mod Stored

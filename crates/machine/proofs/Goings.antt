@@ -36,11 +36,8 @@ module _ (program : List ℕ) (first records : ℕ) where
 
   module _ (u : ℕ) (r : Registers) (m : List ℕ) (status : Status) (w : Walk) (inv : going program first records u (turn r m status Goes) ≡ w) where
     pub over : u ≤ 0 → walk (turn r m status Goes) u ≡ w
-    over h = let e : u ≡ 0 = omega arith in zeroed e ∙ inv
-      where
-        zeroed : u ≡ 0 → walk (turn r m status Goes) u ≡ going program first records u (turn r m status Goes)
-        unfolding going
-        zeroed e = rw e
+    unfolding going
+    over h = let e : u ≡ 0 = omega arith in rw e (rw e at inv)
 
     module _ (h : 0 < u) (s : Stepped) (k n : List ℕ) (made : turnOf s k n ≡ stepTurn program first records r m) where
       pub again : isGoing (s .left) ≡ true

@@ -36,8 +36,9 @@ pub fn store_record(image: &mut [u32; REGISTERS], program: &mut [u8], c: Command
     }
     store::put_record(program, address as usize, c);
     reg_image::set_write_address(image, address + 1);
+    let value = c.value;
     Obeyed {
         status: Status::Stored,
-        value: c.value,
+        value: value,
     }
 }

@@ -1,3 +1,5 @@
 pub mod Stack
 pub mod Goings
 pub mod Decides
+pub mod Facts
+pub mod Runs

@@ -22,3 +22,9 @@ pub struct Gone {
     pub left: Left,
     pub unused: usize,
 }
+
+// The last step's status, or done with no step, and how many steps were made.
+pub struct Made {
+    pub status: Status,
+    pub steps: usize,
+}

@@ -1,32 +1,35 @@
+-- `cmd_control::defaults::default_value` meets its contract. Assumes nothing.
+use mathlib.Core.Path.{refl, ap, _∙_}
+use mathlib.Core.List.{List}
+use lib.IntN.{ℤ}
 use borrow.Author.Needs.{needs}
+use Rattle.sheet.specs.Rows.{rows}
+use Rattle.reg_image.specs.With.{withValues}
+use Rattle.reg_image.specs.Image.{registersOf}
+use Rattle.resetting.proofs.Ones.{value-set, value-kept}
 use Rattle.cmd_control.proofs.defaults.default_value.Statement.{statement}
 use Rattle.cmd_control.proofs.defaults.default_value.Tie as tie
-use Rattle.cmd_control.proofs.defaults.default_value.Reads as reads
-use Rattle.cmd_control.proofs.defaults.default_value.Lts as lts
-use Rattle.reg_image.proofs.set_value.Reads as set-value-reads
-use Rattle.rows.proofs.Access.writes.Reads as writes-reads
-use Rattle.sheet.proofs.row_at.Reads as row-at-reads
 
--- src/defaults.rt:17:9
-row-at-requires : tie.Need-row-at-requires
-row-at-requires c κs = search needs
-
--- src/defaults.rt:19:8
-writes-requires : tie.Need-writes-requires
-writes-requires c κs = search needs
-
--- src/defaults.rt:20:9
-set-value-requires : tie.Need-set-value-requires
-set-value-requires c κs = search needs
-
--- src/defaults.rt:14:1
 returns : tie.Need-returns
-returns c = ?
+returns c =
+    let i = c .before .before in
+    let r = i .before .before in
+    let l = registersOf (r .before .args .image .now) in
+    let s = c .set-value .ensures in
+    record {
+      makes = s .makes ∙ ap (λ (v : List ℤ). withValues v l) (value-set rows _ (l .values) (i .before .writes .ensures) (r .row-at .ensures) (i .if1 .taken) refl);
+      stays = s .stays;
+    }
 
--- src/defaults.rt:14:1
 returns-2 : tie.Need-returns-2
-returns-2 c = ?
+returns-2 c =
+    let r = c .before .before in
+    let l = registersOf (r .before .args .image .now) in
+    record {
+      makes = ap (λ (v : List ℤ). withValues v l) (value-kept rows _ (l .values) (c .before .writes .ensures) (r .row-at .ensures) (c .if1 .left));
+      stays = λ t. t;
+    }
 
 pub default-value-spec : {M : Type 1} → statement M
 default-value-spec =
-    tie.close (tie.spec row-at-requires writes-requires set-value-requires returns returns-2)
+    tie.close (tie.spec (λ c κs. search needs) (λ c κs. search needs) (λ c κs. search needs) returns returns-2)

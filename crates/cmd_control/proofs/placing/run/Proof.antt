@@ -1,32 +1,21 @@
+-- `cmd_control::placing::run` meets its contract. Assumes nothing.
+use borrow.Author.Tests.{eq-eqb, ne-eqb}
+use Rattle.control.specs.Control.{begun}
 use borrow.Author.Needs.{needs}
 use Rattle.cmd_control.proofs.placing.run.Statement.{statement}
 use Rattle.cmd_control.proofs.placing.run.Tie as tie
-use Rattle.cmd_control.proofs.placing.run.Reads as reads
-use Rattle.cmd_control.proofs.placing.run.Lts as lts
-use Rattle.cmd_control.proofs.placing.begin.Reads as begin-reads
-use Rattle.jumping.proofs.address_of.Reads as address-of-reads
-use Rattle.reg_image.proofs.set_running.Reads as set-running-reads
 
--- src/placing.rt:43:9
-set-running-requires : tie.Need-set-running-requires
-set-running-requires c κs = search needs
-
--- src/placing.rt:44:9
 returns : tie.Need-returns
-returns c = ?
+unfolding begun
+returns c =
+    let s = c .set-running .ensures in
+    record { makes = simp (s .makes, eq-eqb _ _ (c .before .before .if1 .taken)); stays = s .stays }
 
--- src/placing.rt:46:18
-address-of-requires : tie.Need-address-of-requires
-address-of-requires c κs = search needs
-
--- src/placing.rt:46:5
-begin-requires : tie.Need-begin-requires
-begin-requires c κs = search needs
-
--- src/placing.rt:39:1
 returns-2 : tie.Need-returns-2
-returns-2 c = ?
+unfolding begun
+returns-2 c =
+    let s = c .begin .ensures in
+    record { makes = simp (s .makes, c .before .address-of .ensures, ne-eqb _ _ (c .before .before .before .if1 .left)); stays = s .stays }
 
 pub run-spec : {M : Type 1} → statement M
-run-spec =
-    tie.close (tie.spec set-running-requires returns address-of-requires begin-requires returns-2)
+run-spec = tie.close (tie.spec (λ c κs. search needs) returns (λ c κs. search needs) (λ c κs. search needs) returns-2)

@@ -1,0 +1,3 @@
+pub mod Defaulting
+pub mod Storing
+pub mod Carrying

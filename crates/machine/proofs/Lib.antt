@@ -3,3 +3,4 @@ pub mod Goings
 pub mod Decides
 pub mod Facts
 pub mod Runs
+pub mod Ends

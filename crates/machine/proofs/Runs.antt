@@ -95,7 +95,7 @@ summaryOf w j n =
       steps = j + (n - w .unused);
     }
 
-unused-low : (program : List ℕ) (n : ℕ) (t : Turn) → going program 0 1024 n t .unused ≤ n
+pub unused-low : (program : List ℕ) (n : ℕ) (t : Turn) → going program 0 1024 n t .unused ≤ n
 unfolding going
 unused-low program zero t = omega arith
 unused-low program (suc n) t =
@@ -219,6 +219,10 @@ whole Goes q m = refl
 whole Holds q m = refl
 whole Stops q m = refl
 
+-- the last turn of a budget
+abbrev last : Turn → Walk
+last t = record { turn = t; unused = 0 }
+
 module _ (program : List ℕ) (long : length program ≡ 7168) where
   rest-step : (x : State) (r : Registers) (m : List ℕ) → board.withState x (stepTurn program 0 1024 r m .registers) ≡ board.withState x r
   rest-step x r m =
@@ -294,3 +298,66 @@ module _ (program : List ℕ) (long : length program ≡ 7168) where
         ap (λ (z : Summary). board.stepsOf z r) summed
         ∙ ap (λ (k : Registers). record { registers = k; store = walk .turn .store; status = walk .turn .status; steps = 0 + (n - walk .unused) }) e
         ∙ ap (λ (i : ℕ). record { registers = ended (walk .turn .left) q; store = walk .turn .store; status = walk .turn .status; steps = i }) (zero-add (n - walk .unused))
+
+  -- ---- one step alone
+  one : (t : Turn) → going program 0 1024 1 t ≡ last (stepTurn program 0 1024 (t .registers) (t .store))
+  unfolding going
+  one t = by (isGoing (stepTurn program 0 1024 (t .registers) (t .store) .left))
+    where
+      by : (b : Bool) → pick b (last (stepTurn program 0 1024 (t .registers) (t .store))) (last (stepTurn program 0 1024 (t .registers) (t .store))) ≡ last (stepTurn program 0 1024 (t .registers) (t .store))
+      by true = refl
+      by false = refl
+
+  settled-ended : (r : Registers) (t : Turn) → Facts r t → settled (t .left) (t .registers) ≡ ended (t .left) (t .registers)
+  settled-ended r t f = by (t .left) refl
+    where
+      by : (l : Left) → t .left ≡ l → settled l (t .registers) ≡ ended l (t .registers)
+      by Goes e = undropped (t .registers) (f .wait (λ q. go-hold (sym e ∙ q)))
+      by Holds e = refl
+      by Stops e = ap (λ (v : Wait). inCore (λ (c : Core). withRunning false (withWait v c)) (t .registers)) (sym (f .wait (λ q. stop-hold (sym e ∙ q))))
+
+  readied-step : (r : Registers) (m : List ℕ) → stepped (stepTurn program 0 1024 (readied program r) m) ≡ stepped (stepTurn program 0 1024 r m)
+  readied-step r m = by (isWait program (r .core .address)) refl
+    where
+      by : (b : Bool) → isWait program (r .core .address) ≡ b → stepped (stepTurn program 0 1024 (pick (isWait program (r .core .address)) r (dropped r)) m) ≡ stepped (stepTurn program 0 1024 r m)
+      by true e = rw e
+      by false e = rw e (blind-step r m e)
+
+  readied-ready : (r : Registers) → Ready program (readied program r)
+  unfolding Ready
+  readied-ready r = by (isWait program (r .core .address)) refl
+    where
+      by : (b : Bool) → isWait program (r .core .address) ≡ b
+          → isWait program (pick (isWait program (r .core .address)) r (dropped r) .core .address) ≡ false → pick (isWait program (r .core .address)) r (dropped r) .core .wait ≡ droppedWait
+      by true e f = absurd (is-T false (sym (rw e at f) ∙ e))
+      by false e f = rw e
+
+  pub alone-is : (r : Registers) (m : List ℕ)
+      → board.stepOnce program r m
+      ≡ record {
+          registers = ended (going program 0 1024 1 (turn (readied program r) m Done Goes) .turn .left) (going program 0 1024 1 (turn (readied program r) m Done Goes) .turn .registers);
+          store = going program 0 1024 1 (turn (readied program r) m Done Goes) .turn .store;
+          status = going program 0 1024 1 (turn (readied program r) m Done Goes) .turn .status;
+        }
+  unfolding board.stepOnce
+  alone-is r m =
+      let t = stepTurn program 0 1024 (readied program r) m in
+      step-is program long r m
+      ∙ sym (readied-step r m)
+      ∙ ap (λ (k : Registers). record { registers = k; store = t .store; status = t .status }) (settled-ended (readied program r) t (facts program long (readied program r) m (readied-ready r)))
+      ∙ ap (λ (w : Walk). record { registers = ended (w .turn .left) (w .turn .registers); store = w .turn .store; status = w .turn .status }) (sym (one (turn (readied program r) m Done Goes)))
+
+-- ---- a run that makes no step
+nothing : (program : List ℕ) (n : ℕ) (r : Registers) (m : List ℕ) → run false program (pinsOf r) n (begun (stateOf r m)) ≡ begun (stateOf r m)
+    → board.steps false program n r m ≡ record { registers = r; store = m; status = Done; steps = 0 }
+unfolding board.steps
+nothing program n r m h = ap (λ (x : Progress). board.stepsOf (summary x) r) h
+
+pub not-running : (program : List ℕ) (n : ℕ) (r : Registers) (m : List ℕ) → r .core .running ≡ false
+    → board.steps false program n r m ≡ record { registers = r; store = m; status = Done; steps = 0 }
+not-running program n r m h = nothing program n r m (run-ended program (pinsOf r) n (begun (stateOf r m)) h)
+
+pub no-budget : (program : List ℕ) (n : ℕ) (r : Registers) (m : List ℕ) → n ≡ 0
+    → board.steps false program n r m ≡ record { registers = r; store = m; status = Done; steps = 0 }
+unfolding run
+no-budget program n r m h = nothing program n r m (rw h)

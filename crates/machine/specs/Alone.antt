@@ -6,6 +6,7 @@ use mathlib.Core.List.{List}
 use lib.Dec.{eqb, ltb}
 use lib.ListN.{getD}
 use Rattle.words.specs.Word.{pick}
+use Rattle.status.specs.declared.Status.the-variants.{Done}
 use Rattle.registers.specs.Registers.{withRunning}
 use Rattle.board.specs.declared.Registers.{Registers}
 use Rattle.board.specs.Step.{stepOnce, steps}
@@ -17,6 +18,7 @@ use Rattle.cmd_turns.specs.Turn.{dropped}
 use Rattle.cmd_turns.specs.Deed.{seen}
 use Rattle.machine.specs.declared.Gone.{Gone}
 use Rattle.machine.specs.declared.Made.{Made}
+use Rattle.machine.specs.Steps.{Walk}
 
 -- one step, as 130 makes it
 pub record StepsAlone (program l m k n : List ℕ) : Type 0 where
@@ -32,6 +34,10 @@ pub record Runs (program : List ℕ) (budget : ℕ) (l m : List ℕ) (r : Made) 
   pub store : n ≡ steps false program budget (registersOf l) m .store
   pub stays : shaped l ≡ true → shaped k ≡ true
 
+-- 100 with no step
+abbrev pub noneMade : Made
+noneMade = record { status = Done; steps = 0 }
+
 -- ---- before the first step: "so does any step that is not a WAIT drop it". Only the first step can find a wait armed, since one that
 -- leaves it armed ends the run.
 abbrev pub isWait : List ℕ → ℕ → Bool
@@ -46,5 +52,18 @@ ended Goes r = r
 ended Holds r = r
 ended Stops r = inCore (withRunning false) r
 
+abbrev pub isStop : Left → Bool
+isStop Goes = false
+isStop Holds = false
+isStop Stops = true
+
 abbrev pub finished : Gone → Registers → Registers
 finished g r = ended (g .left) (seen (g .accumulator) (g .address) r)
+
+-- ---- steps from the registers as they are to the registers as they are left
+pub record Walks (w : Walk) (l : List ℕ) (g : Gone) (k m : List ℕ) : Type 0 where
+  pub makes : registersOf k ≡ ended (w .turn .left) (w .turn .registers)
+  pub store : m ≡ w .turn .store
+  pub status : g .status ≡ w .turn .status
+  pub unused : g .unused ≡ w .unused
+  pub stays : shaped l ≡ true → shaped k ≡ true

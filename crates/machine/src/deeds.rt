@@ -84,7 +84,7 @@ fn pop(image: &mut [u32; REGISTERS]) -> u32
     back
 }
 
-fn drop_wait(image: &mut [u32; REGISTERS])
+pub(crate) fn drop_wait(image: &mut [u32; REGISTERS])
     ensures { λ _. ⌜ Leaves dropped (now (image .entry)) (now (image .exit)) ⌝ }
 {
     reg_image::set_wait(image, Wait::dropped());

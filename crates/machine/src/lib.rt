@@ -1,6 +1,10 @@
 // One machine: every command of a program and of direct mode is decided and carried out here, in place.
 mod deeds;
+mod program;
 mod steps;
+
+pub use program::run;
+pub use program::step_alone;
 
 use cmd_turns::Left;
 use status::Status;

@@ -1,0 +1,23 @@
+-- `board_datagrams::receiving::answer` meets its contract. Assumes nothing.
+use Rattle.board_datagrams.proofs.Answering.{replies}
+use borrow.Author.Needs.{needs}
+use Rattle.board_datagrams.proofs.receiving.answer.Statement.{statement}
+use Rattle.board_datagrams.proofs.receiving.answer.Tie as tie
+
+returns : tie.Need-returns
+returns c r =
+    let x = c .before .before .before .before .before .before .before .before .before .before .before .before .before .before .before .before .before .before .before .before .args in
+    replies (x .image .now) (x .program .now) (x .cells .now) (x .reply .now) (x .c) _ _ _ _ _ _ _ (c .before .before .before .before .before .before .before .before .before .before .before .before .before .before .addresses .ensures) (c .before .before .before .before .before .before .before .before .before .before .obey .ensures r) (c .before .before .before .reply-with .ensures) (c .number .ensures)
+
+pub answer-spec : {M : Type 1} → statement M
+answer-spec =
+    tie.close
+    (tie.spec
+    (λ c κs. search needs)
+    (λ c κs. search needs)
+    (λ c κs. search needs)
+    (λ c κs. search needs)
+    (λ c. search needs)
+    (λ c. search needs)
+    (λ c. search needs)
+    returns)

@@ -12,8 +12,7 @@ use Rattle.replying.specs.declared.Addresses.{Addresses}
 use Rattle.serial.specs.Serial.{takenOf}
 use Rattle.serial.specs.declared.Taken.{Taken}
 use Rattle.serial.specs.declared.Taken.the-variants.{NotOurs, Damaged, Whole}
-use Rattle.datagrams.specs.Datagram.{Board, board, After, unchanged, afterObeying, obeyedBy, received, lent}
-use Rattle.board.specs.declared.Registers.{Registers}
+use Rattle.datagrams.specs.Datagram.{Board, board, After, unchanged, obeyedBy, received, lent}
 use Rattle.reg_image.specs.Image.{registersOf}
 use Rattle.reg_range.specs.Range.{stands}
 use Rattle.cmd_turns.specs.declared.Obeyed.{Obeyed}

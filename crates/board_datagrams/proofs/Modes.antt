@@ -1,6 +1,6 @@
 -- What a command leaves, from what each mode left. Assumes nothing.
 use Prim.Native.Nat.{ℕ}
-use mathlib.Core.Path.{_≡_, refl, sym, ap, subst, _∙_}
+use mathlib.Core.Path.{_≡_, refl, sym, subst}
 use mathlib.Core.Bool.{true, false}
 use mathlib.Core.List.{List}
 use lib.Dec.{leb}
@@ -11,7 +11,6 @@ use Rattle.status.specs.declared.Status.{Status}
 use Rattle.control.specs.Control as control
 use Rattle.board.specs.Step.{stepOnce}
 use Rattle.board.specs.declared.Registers.{Registers}
-use Rattle.outcomes.specs.Outcome.{Changed}
 use Rattle.storing.specs.Storing.{stored}
 use Rattle.controlling.specs.Controlling.{Both, afterTurn, controlled, judgedControl, obeyedControl}
 use Rattle.commands.specs.Obey.{Outcome, outcome, direct, obeyed}

@@ -2,12 +2,11 @@
 use Prim.Native.Nat.{ℕ}
 use native.Mathlib.Omega.{arith}
 use mathlib.Core.Path.{_≡_, refl}
-use mathlib.Core.Bool.{Bool, true, false, _&&_}
+use mathlib.Core.Bool.{true, _&&_}
 use mathlib.Core.List.{List}
 use borrow.Author.Tests.{eqb-true}
 use lib.Dec.{eqb}
 use lib.ListN.{length, getD}
-use Rattle.words.specs.Word.{pick}
 use Rattle.words.proofs.Bools.{each, either}
 use Rattle.checksum.specs.Checksum.{rightFrame}
 use Rattle.wire.specs.Frame.{commandAt}

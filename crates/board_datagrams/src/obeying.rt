@@ -34,12 +34,7 @@ fn step(image: &mut [u32; REGISTERS], program: &[u8], cells: &mut [u8], c: Comma
 }
 
 // A control command.
-fn control(
-    image: &mut [u32; REGISTERS],
-    program: &[u8],
-    cells: &mut [u8],
-    c: Command,
-) -> Obeyed
+fn control(image: &mut [u32; REGISTERS], program: &[u8], cells: &mut [u8], c: Command) -> Obeyed
     ensures { λ r. ⌜ (length (now (program .entry)) ≡ 7168 → isParameterStore (now (cells .entry)) ≡ true → Obeys (obeyedControl c (now (program .entry)) (registersOf (now (image .entry))) (now (cells .entry))) (now (image .entry)) r (now (image .exit)) (now (cells .exit))) ⌝ }
 {
     if c.number == 130 {

@@ -7,7 +7,12 @@ pub struct Ran {
     pub steps: usize,
 }
 
-pub fn run(_image: &mut [u32; REGISTERS], _program: &[u8], _cells: &mut [u8], _budget: usize) -> Ran {
+pub fn run(
+    _image: &mut [u32; REGISTERS],
+    _program: &[u8],
+    _cells: &mut [u8],
+    _budget: usize,
+) -> Ran {
     Ran {
         status: 0,
         steps: 0,

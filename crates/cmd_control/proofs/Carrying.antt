@@ -1,6 +1,6 @@
 -- What a control command leaves, from what was asked and done. Assumes nothing.
 use Prim.Native.Nat.{ℕ}
-use mathlib.Core.Path.{_≡_, refl, sym, ap, subst, _∙_}
+use mathlib.Core.Path.{_≡_, refl, sym, subst}
 use mathlib.Core.Bool.{true, false}
 use mathlib.Core.List.{List}
 use borrow.Author.Tests.{ne-eqb}
@@ -15,7 +15,7 @@ use Rattle.board.specs.Registers.{powered}
 use Rattle.board.specs.declared.Registers.{Registers}
 use Rattle.outcomes.specs.Outcome.{Changed, changed, refused}
 use Rattle.controlling.specs.Controlling.{Both, both, placed, defaults, controlled, judgedControl, afterControl, obeyedControl}
-use Rattle.reg_image.specs.Image.{registersOf, shaped, Leaves}
+use Rattle.reg_image.specs.Image.{registersOf, Leaves}
 use Rattle.board_events.specs.Events.{powerStatus}
 use Rattle.board_events.specs.Standing.{Is, Leaving, Told}
 use Rattle.cmd_turns.specs.Obeys.{Obeys}

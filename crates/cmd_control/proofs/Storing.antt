@@ -1,6 +1,6 @@
 -- What a command in download mode leaves, from what was asked and written. Assumes nothing.
 use Prim.Native.Nat.{ℕ, _+_}
-use mathlib.Core.Path.{_≡_, refl, sym, ap, subst, _∙_}
+use mathlib.Core.Path.{_≡_, refl, sym, ap, subst}
 use mathlib.Core.Bool.{true, false}
 use mathlib.Core.List.{List}
 use lib.Dec.{eqb, leb}
@@ -12,7 +12,7 @@ use Rattle.status.specs.declared.Status.{Status}
 use Rattle.status.specs.declared.Status.the-variants.{Stored, Unknown, Value, Locked}
 use Rattle.board.specs.declared.Registers.{Registers}
 use Rattle.outcomes.specs.Outcome.{done, refused}
-use Rattle.storing.specs.Storing.{Kept, kept, withDownload, stored}
+use Rattle.storing.specs.Storing.{Kept, kept, stored}
 use Rattle.reg_image.specs.With.{writingAt}
 use Rattle.reg_image.specs.Image.{registersOf, Leaves}
 use Rattle.cmd_turns.specs.declared.Obeyed.{Obeyed}

@@ -1,13 +1,11 @@
 -- What 128, 129, 131 and 132 make of the registers, part by part.
 use Prim.Native.Nat.{ℕ}
-use mathlib.Core.Bool.{Bool, true, false}
+use mathlib.Core.Bool.{Bool, false}
 use lib.IntN.{ℤ}
-use Rattle.words.specs.Word.{pick}
 use Rattle.stack.specs.Stack.{emptied}
 use Rattle.waits.specs.Waits.{droppedWait}
 use Rattle.registers.specs.Registers.{withWait, withRunning, withDepth, moved}
 use Rattle.registers.specs.declared.Core.{Core}
-use Rattle.jumping.specs.Jump.{addressOf}
 use Rattle.control.specs.Control as control
 use Rattle.board.specs.declared.Registers.{Registers}
 use Rattle.reg_image.specs.With.{inCore, withEntries, withDownload, downloading}

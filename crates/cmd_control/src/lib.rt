@@ -54,12 +54,7 @@ fn carry_out(image: &mut [u32; REGISTERS], store: &mut [u8], c: Command)
 }
 
 // A control command but 130. What 134 and 135 read, they read before.
-pub fn control(
-    image: &mut [u32; REGISTERS],
-    program: &[u8],
-    store: &mut [u8],
-    c: Command,
-) -> Obeyed
+pub fn control(image: &mut [u32; REGISTERS], program: &[u8], store: &mut [u8], c: Command) -> Obeyed
     ensures { λ r. ⌜ ((c .number ≡ 130 → ⊥) → isParameterStore (now (store .entry)) ≡ true → Obeys (controlling.obeyedControl c (now (program .entry)) (registersOf (now (image .entry))) (now (store .entry))) (now (image .entry)) r (now (image .exit)) (now (store .exit))) ⌝ }
 {
     let judged = judge(c, image);

@@ -29,7 +29,7 @@ module _ (program : List ℕ) (first records : ℕ) where
   more : (u : ℕ) (t : Turn) → 0 < u
       → going program first records u t
       ≡ pick (isGoing (stepTurn program first records (t .registers) (t .store) .left)) (going program first records (u - 1) (stepTurn program first records (t .registers) (t .store)))
-        (walk (stepTurn program first records (t .registers) (t .store)) (u - 1))
+      (walk (stepTurn program first records (t .registers) (t .store)) (u - 1))
   unfolding going
   more zero t h = absurd (omega arith)
   more (suc n) t h = let e : suc n - 1 ≡ n = omega arith in rw e

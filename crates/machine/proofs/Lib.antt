@@ -1,6 +1,9 @@
 pub mod Stack
+pub mod Keeps
 pub mod Goings
 pub mod Decides
 pub mod Facts
 pub mod Runs
 pub mod Ends
+pub mod Blind
+pub mod Shown

@@ -119,7 +119,7 @@ run-on program p n x h = rw h
 going-on : (program : List ℕ) (n : ℕ) (t : Turn)
     → going program 0 1024 (suc n) t
     ≡ pick (isGoing (stepTurn program 0 1024 (t .registers) (t .store) .left)) (going program 0 1024 n (stepTurn program 0 1024 (t .registers) (t .store)))
-      (record { turn = stepTurn program 0 1024 (t .registers) (t .store); unused = n })
+    (record { turn = stepTurn program 0 1024 (t .registers) (t .store); unused = n })
 unfolding going
 going-on program n t = refl
 
@@ -159,7 +159,7 @@ module _ (program : List ℕ) (p : Pins) (n j : ℕ) (r : Registers) (t : Turn) 
   on-ends l e i h s =
       ap summary (run-ended program p n (onward (after (t .status) then-state) j) h)
       ∙ ap (λ (k : Registers). record { state = stateOf k (t .store); status = t .status; steps = j + 1 })
-        (ap (λ (q : Left). settled q (t .registers)) e ∙ s ∙ ap (λ (q : Left). ended q (t .registers)) (sym e))
+      (ap (λ (q : Left). settled q (t .registers)) e ∙ s ∙ ap (λ (q : Left). ended q (t .registers)) (sym e))
       ∙ ap (λ (k : ℕ). record { state = stateOf (ended (t .left) (t .registers)) (t .store); status = t .status; steps = k }) one-more
       ∙ ap (λ (b : Bool). summaryOf (pick b (going program 0 1024 n t) (record { turn = t; unused = n })) j (suc n)) (sym (ap isGoing e ∙ i))
 
@@ -193,9 +193,9 @@ module _ (program : List ℕ) (long : length program ≡ 7168) (p : Pins) where
       ap summary (run-on program p n (progress r m s j) on)
       ∙ ap (λ (z : After). summary (run false program p n (onward z j))) y
       ∙ by f (t .left) refl
-        (λ e. walked n (t .registers) (t .store) (t .status) (j + 1) (f .running e ∙ on)
-        (λ _. f .wait (λ q. go-hold (sym e ∙ q)))
-        (same ∙ sym (ap (λ (l : Left). pinsOf (settled l (t .registers))) (sym e) ∙ pins-stay program long r m)))
+      (λ e. walked n (t .registers) (t .store) (t .status) (j + 1) (f .running e ∙ on)
+      (λ _. f .wait (λ q. go-hold (sym e ∙ q)))
+      (same ∙ sym (ap (λ (l : Left). pinsOf (settled l (t .registers))) (sym e) ∙ pins-stay program long r m)))
       ∙ ap (λ (w : Walk). summaryOf w j (suc n)) (sym (going-on program n (turn r m s Goes)))
     where
       by : Facts r (stepTurn program 0 1024 r m) → (l : Left) → stepTurn program 0 1024 r m .left ≡ l
@@ -294,7 +294,7 @@ module _ (program : List ℕ) (long : length program ≡ 7168) where
         let q = walk .turn .registers in
         let x = stateOf (ended (walk .turn .left) q) (walk .turn .store) in
         let e : board.withState x r ≡ ended (walk .turn .left) q =
-            sym (rest-going x n (turn (readied program r) m Done Goes) ∙ rest-readied x (isWait program (r .core .address))) ∙ whole (walk .turn .left) q (walk .turn .store) in
+        sym (rest-going x n (turn (readied program r) m Done Goes) ∙ rest-readied x (isWait program (r .core .address))) ∙ whole (walk .turn .left) q (walk .turn .store) in
         ap (λ (z : Summary). board.stepsOf z r) summed
         ∙ ap (λ (k : Registers). record { registers = k; store = walk .turn .store; status = walk .turn .status; steps = 0 + (n - walk .unused) }) e
         ∙ ap (λ (i : ℕ). record { registers = ended (walk .turn .left) q; store = walk .turn .store; status = walk .turn .status; steps = i }) (zero-add (n - walk .unused))
@@ -335,10 +335,10 @@ module _ (program : List ℕ) (long : length program ≡ 7168) where
   pub alone-is : (r : Registers) (m : List ℕ)
       → board.stepOnce program r m
       ≡ record {
-          registers = ended (going program 0 1024 1 (turn (readied program r) m Done Goes) .turn .left) (going program 0 1024 1 (turn (readied program r) m Done Goes) .turn .registers);
-          store = going program 0 1024 1 (turn (readied program r) m Done Goes) .turn .store;
-          status = going program 0 1024 1 (turn (readied program r) m Done Goes) .turn .status;
-        }
+        registers = ended (going program 0 1024 1 (turn (readied program r) m Done Goes) .turn .left) (going program 0 1024 1 (turn (readied program r) m Done Goes) .turn .registers);
+        store = going program 0 1024 1 (turn (readied program r) m Done Goes) .turn .store;
+        status = going program 0 1024 1 (turn (readied program r) m Done Goes) .turn .status;
+      }
   unfolding board.stepOnce
   alone-is r m =
       let t = stepTurn program 0 1024 (readied program r) m in

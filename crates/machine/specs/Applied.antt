@@ -24,8 +24,14 @@ use Rattle.machine.specs.declared.Stepped.{Stepped}
 abbrev pub turnOf : Stepped → List ℕ → List ℕ → Turn
 turnOf s l m = turn (seen (s .accumulator) (s .address) (registersOf l)) m (s .status) (s .left)
 
+-- the places of what is carried by value keep what they had
+pub record Kept (l k : List ℕ) : Type 0 where
+  pub accumulator : registersOf k .core .accumulator ≡ registersOf l .core .accumulator
+  pub address : registersOf k .core .address ≡ registersOf l .core .address
+
 pub record Makes (t : Turn) (l : List ℕ) (s : Stepped) (k m : List ℕ) : Type 0 where
   pub makes : turnOf s k m ≡ t
+  pub kept : Kept l k
   pub stays : shaped l ≡ true → shaped k ≡ true
 
 -- an address taken off the stack

@@ -1,3 +1,4 @@
 pub mod Applied
 pub mod Steps
 pub mod Alone
+pub mod Direct

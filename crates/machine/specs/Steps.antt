@@ -16,6 +16,7 @@ use Rattle.cmd_turns.specs.declared.Left.the-variants.{Goes, Holds, Stops}
 use Rattle.cmd_turns.specs.Turn.{Turn, turn, turned}
 use Rattle.cmd_turns.specs.Deed.{doing, seen}
 use Rattle.machine.specs.declared.Gone.{Gone}
+use Rattle.machine.specs.Applied.{Kept}
 
 -- the deed is right for the record at a place
 abbrev pub Right : List ℕ → ℕ → Word → ℕ → Registers → List ℕ → Deed → Type 0
@@ -50,4 +51,5 @@ walkOf g l m =
 
 pub record Goings (w : Walk) (l : List ℕ) (g : Gone) (k m : List ℕ) : Type 0 where
   pub makes : walkOf g k m ≡ w
+  pub kept : Kept l k
   pub stays : shaped l ≡ true → shaped k ≡ true

@@ -1,12 +1,13 @@
 // One machine: every command of a program and of direct mode is decided and carried out here, in place.
 mod deeds;
+mod frame;
 mod program;
 mod steps;
 
+use cmd_turns::Left;
+pub use frame::direct;
 pub use program::run;
 pub use program::step_alone;
-
-use cmd_turns::Left;
 use status::Status;
 use words::Word;
 

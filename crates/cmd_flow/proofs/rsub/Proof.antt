@@ -15,14 +15,14 @@ returns : tie.Need-returns
 unfolding judged turned through isFlow flowed doing
 returns c x a n m =
     let e : eqb (registersOf (c .before .before .args .image .now) .core .depth) 0 ≡ true =
-        eq-eqb _ _ (sym (c .before .depth .ensures) ∙ c .if1 .taken) in
+    eq-eqb _ _ (sym (c .before .depth .ensures) ∙ c .if1 .taken) in
     simp e
 
 returns-2 : tie.Need-returns-2
 unfolding judged turned through isFlow flowed doing
 returns-2 c x a n m =
     let e : eqb (registersOf (c .before .before .args .image .now) .core .depth) 0 ≡ false =
-        ne-eqb _ _ (λ q. c .if1 .left (c .before .depth .ensures ∙ q)) in
+    ne-eqb _ _ (λ q. c .if1 .left (c .before .depth .ensures ∙ q)) in
     simp e
 
 pub rsub-spec : {M : Type 1} → statement M

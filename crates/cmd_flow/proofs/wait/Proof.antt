@@ -52,7 +52,7 @@ returns-3 c n m =
     let s = seen (x .accumulator) n (registersOf (x .image .now)) in
     let e : s .core .wait .armed ≡ false = sym (k .before .armed .ensures) ∙ k .if2 .left in
     let h : notNegative (armedFrom (x .c .kind) (x .c .value) (x .accumulator) .v) ≡ false =
-        sym (b .not-negative .ensures ∙ ap (λ (w : Word). notNegative (w .v)) (f .armed-from .ensures)) ∙ not-true (b .not-negative .result) (c .if3 .taken) in
+    sym (b .not-negative .ensures ∙ ap (λ (w : Word). notNegative (w .v)) (f .armed-from .ensures)) ∙ not-true (b .not-negative .result) (c .if3 .taken) in
     sym (passes 27 (x .c) (g .result) (sym (g .ensures)) s m (sym (d .is-done .ensures) ∙ not-false (d .is-done .result) (i .if1 .left)) ∙ simp (e, h))
 
 returns-4 : tie.Need-returns-4
@@ -70,7 +70,7 @@ returns-4 c n m =
     let v = f .armed-from .result in
     let e : s .core .wait .armed ≡ false = sym (k .before .armed .ensures) ∙ k .if2 .left in
     let h : notNegative (armedFrom (x .c .kind) (x .c .value) (x .accumulator) .v) ≡ true =
-        sym (b .not-negative .ensures ∙ ap (λ (w : Word). notNegative (w .v)) (f .armed-from .ensures)) ∙ not-false (b .not-negative .result) (t .if3 .left) in
+    sym (b .not-negative .ensures ∙ ap (λ (w : Word). notNegative (w .v)) (f .armed-from .ensures)) ∙ not-false (b .not-negative .result) (t .if3 .left) in
     c .tested2 .ensures (armedWith (v .v)) (c .before .bits-of .ensures) (ap (ltb 0) (c .before .bits-of .ensures)) s m refl
     ∙ sym (passes 27 (x .c) (g .result) (sym (g .ensures)) s m (sym (d .is-done .ensures) ∙ not-false (d .is-done .result) (i .if1 .left))
     ∙ simp (e, h, ← f .armed-from .ensures))

@@ -46,8 +46,8 @@ returns-3 c r n m =
     let s = seen (x .accumulator) n r in
     c .into-accumulator .ensures s m
     ∙ simp (c .before .calculate .ensures)
-      (sym (passes 19 (x .c) (g .result) (sym (g .ensures)) s m (sym (d .is-done .ensures) ∙ not-false (d .is-done .result) (i .if1 .left))
-      ∙ simp (ne-eqb _ _ (k .if2 .left))))
+    (sym (passes 19 (x .c) (g .result) (sym (g .ensures)) s m (sym (d .is-done .ensures) ∙ not-false (d .is-done .result) (i .if1 .left))
+    ∙ simp (ne-eqb _ _ (k .if2 .left))))
 
 pub calc-spec : {M : Type 1} → statement M
 calc-spec =

@@ -58,8 +58,8 @@ returns-4 c n m =
     let s = seen (x .accumulator) n (registersOf (x .image .now)) in
     c .into-accumulator .ensures s m
     ∙ simp (c .before .calculate .ensures, k .before .x .ensures)
-      (sym (passes 33 (x .c) (g .result) (sym (g .ensures)) s m (sym (d .is-done .ensures) ∙ not-false (d .is-done .result) (i .if1 .left))
-      ∙ simp (ne-eqb _ _ (k .match .rest .0 .1), ne-eqb _ _ (k .match .rest .1))))
+    (sym (passes 33 (x .c) (g .result) (sym (g .ensures)) s m (sym (d .is-done .ensures) ∙ not-false (d .is-done .result) (i .if1 .left))
+    ∙ simp (ne-eqb _ _ (k .match .rest .0 .1), ne-eqb _ _ (k .match .rest .1))))
 
 pub calcx-spec : {M : Type 1} → statement M
 calcx-spec =

@@ -19,7 +19,7 @@ returns c =
     let x = a .before .before .before .args in
     let r = registersOf (x .image .now) in
     let e : isWait (x .program .now) (r .core .address) ≡ false =
-        ap (isWait (x .program .now)) (sym (a .address .ensures)) ∙ sym (w .is-wait .ensures) ∙ not-true (w .is-wait .result) (i .if1 .taken) in
+    ap (isWait (x .program .now)) (sym (a .address .ensures)) ∙ sym (w .is-wait .ensures) ∙ not-true (w .is-wait .result) (i .if1 .taken) in
     record { makes = c .drop-wait .ensures .makes ∙ ap (λ (b : Bool). pick b r (dropped r)) (sym e); stays = c .drop-wait .ensures .stays }
 
 returns-2 : tie.Need-returns-2
@@ -29,7 +29,7 @@ returns-2 c =
     let x = a .before .before .before .args in
     let r = registersOf (x .image .now) in
     let e : isWait (x .program .now) (r .core .address) ≡ true =
-        ap (isWait (x .program .now)) (sym (a .address .ensures)) ∙ sym (w .is-wait .ensures) ∙ not-false (w .is-wait .result) (c .if1 .left) in
+    ap (isWait (x .program .now)) (sym (a .address .ensures)) ∙ sym (w .is-wait .ensures) ∙ not-false (w .is-wait .result) (c .if1 .left) in
     record { makes = ap (λ (b : Bool). pick b r (dropped r)) (sym e); stays = λ t. t }
 
 pub begin-spec : {M : Type 1} → statement M

@@ -28,9 +28,9 @@ returns c =
     let p = x .program .now in
     let r1 = registersOf (b .begin .last .0) in
     let e =
-        g .go .ensures .makes
-        ∙ ap (λ (q : Registers). going p 0 1024 (x .budget) (turn q (x .store .now) Done Goes))
-          (as-it-is r1 (a .accumulator .result) (n .address .result) (a .accumulator .ensures) (n .address .ensures) ∙ b .begin .ensures .makes) in
+    g .go .ensures .makes
+    ∙ ap (λ (q : Registers). going p 0 1024 (x .budget) (turn q (x .store .now) Done Goes))
+    (as-it-is r1 (a .accumulator .result) (n .address .result) (a .accumulator .ensures) (n .address .ensures) ∙ b .begin .ensures .makes) in
     record {
       makes = c .finish .ensures .makes ∙ ap (λ (w : Walk). ended (w .turn .left) (w .turn .registers)) e;
       store = ap (λ (w : Walk). w .turn .store) e;

@@ -11,7 +11,9 @@ use Rattle.cmd_turns.specs.declared.Left.the-variants.{Goes}
 use Rattle.cmd_turns.specs.Turn.{turn}
 use Rattle.cmd_turns.specs.Deed.{seen}
 use Rattle.reg_image.specs.Image.{registersOf, shaped}
+use Rattle.machine.specs.Applied.{Kept}
 use Rattle.machine.specs.Steps.{going}
+use Rattle.machine.proofs.Keeps.{same, both}
 use Rattle.machine.proofs.Goings.{over, again, ended}
 use borrow.Author.Needs.{needs}
 use Rattle.machine.proofs.steps.go.Statement.{statement}
@@ -23,12 +25,13 @@ Inv-loop address image₀ store₀ program first records budget accumulator₀ t
     ≡ going program first records budget (turn (seen accumulator₀ address (registersOf image₀)) store₀ Done Goes))
     × (shaped image₀ ≡ true → shaped image ≡ true)
     × (length store ≡ length store₀)
+    × Kept image₀ image
 
 abbrev μ-loop : tie.MeasureT-loop
 μ-loop address image₀ store₀ program first records budget accumulator₀ there₀ status₀ unused₀ image store accumulator there status unused = unused
 
 loop-holds : tie.Need-loop-holds Inv-loop μ-loop
-loop-holds c = (refl, λ t. t, refl)
+loop-holds c = (refl, λ t. t, refl, same _)
 
 step-requires : tie.Need-step-requires Inv-loop μ-loop
 step-requires c κs = c .before .before .before .before .before .before .pre
@@ -44,6 +47,7 @@ returns c =
       makes =
           ended (x .program .now) (x .first) (x .records) (l .loop .unused) (seen (l .loop .accumulator) (l .loop .there) (registersOf (l .loop .image))) (l .loop .store) (l .loop .status) _ (l .loop .inv .0) (t .loop-test .taken) (s .step .result) _ _ (s .step .ensures .makes)
           (sym (g .goes-on .ensures) ∙ not-true (g .goes-on .result) (c .if1 .taken));
+      kept = both _ _ _ (l .loop .inv .3) (s .step .ensures .kept);
       stays = λ e. s .step .ensures .stays (l .loop .inv .1 e);
     }
 
@@ -53,11 +57,13 @@ loop-again c =
     let s = g .before .before .before .before in
     let t = s .before .before .before in
     let l = t .before in
-    let x = l .before .before .before .args in
-    (again (x .program .now) (x .first) (x .records) (l .loop .unused) (seen (l .loop .accumulator) (l .loop .there) (registersOf (l .loop .image))) (l .loop .store) (l .loop .status) _ (l .loop .inv .0) (t .loop-test .taken) (s .step .result) _ _ (s .step .ensures .makes)
-    (sym (g .goes-on .ensures) ∙ not-false (g .goes-on .result) (c .if1 .left)),
-    λ e. s .step .ensures .stays (l .loop .inv .1 e),
-    search needs)
+    let x = l .before .before .before .args in (
+      again (x .program .now) (x .first) (x .records) (l .loop .unused) (seen (l .loop .accumulator) (l .loop .there) (registersOf (l .loop .image))) (l .loop .store) (l .loop .status) _ (l .loop .inv .0) (t .loop-test .taken) (s .step .result) _ _ (s .step .ensures .makes)
+          (sym (g .goes-on .ensures) ∙ not-false (g .goes-on .result) (c .if1 .left)),
+      λ e. s .step .ensures .stays (l .loop .inv .1 e),
+      search needs,
+      both _ _ _ (l .loop .inv .3) (s .step .ensures .kept),
+    )
 
 returns-2 : tie.Need-returns-2 Inv-loop μ-loop
 returns-2 c =
@@ -66,6 +72,7 @@ returns-2 c =
     record {
       makes =
           over (x .program .now) (x .first) (x .records) (l .loop .unused) (seen (l .loop .accumulator) (l .loop .there) (registersOf (l .loop .image))) (l .loop .store) (l .loop .status) _ (l .loop .inv .0) (c .loop-test .left);
+      kept = l .loop .inv .3;
       stays = l .loop .inv .1;
     }
 

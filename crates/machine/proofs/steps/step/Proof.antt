@@ -4,13 +4,14 @@ use Prim.Native.Nat.{_<_}
 use mathlib.Core.Path.{refl, _∙_}
 use borrow.Author.Tests.{le-leb, lt-leb, lt-ltb}
 use Rattle.machine.specs.Steps.{stepTurn}
+use Rattle.machine.proofs.Keeps.{same}
 use borrow.Author.Needs.{needs}
 use Rattle.machine.proofs.steps.step.Statement.{statement}
 use Rattle.machine.proofs.steps.step.Tie as tie
 
 returns : tie.Need-returns
 unfolding stepTurn
-returns c = record { makes = simp (le-leb _ _ (c .if1 .taken)); stays = λ t. t }
+returns c = record { makes = simp (le-leb _ _ (c .if1 .taken)); kept = same _; stays = λ t. t }
 
 decide-requires : tie.Need-decide-requires
 decide-requires c κs =
@@ -25,7 +26,7 @@ returns-2 c =
     let a = c .before .before in
     let d = a .before .before .before in
     let i = d .before .before .before .before in
-    record { makes = simp (lt-leb _ _ (i .if1 .left)) (a .apply .ensures .makes ∙ d .decide .ensures); stays = a .apply .ensures .stays }
+    record { makes = simp (lt-leb _ _ (i .if1 .left)) (a .apply .ensures .makes ∙ d .decide .ensures); kept = a .apply .ensures .kept; stays = a .apply .ensures .stays }
 
 pub step-spec : {M : Type 1} → statement M
 step-spec =

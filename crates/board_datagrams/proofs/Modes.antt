@@ -20,7 +20,7 @@ use Rattle.cmd_turns.specs.declared.Obeyed.{Obeyed}
 use Rattle.cmd_control.specs.Stored.{Stores}
 use Rattle.cmd_control.specs.Carried.{Carries}
 use Rattle.cmd_control.proofs.Carrying.{carried}
-use Rattle.board_datagrams.specs.Alone.{StepsAlone}
+use Rattle.machine.specs.Alone.{StepsAlone}
 use Rattle.board_datagrams.specs.Command.{Does}
 
 module _ (c : Command) (l p m : List ℕ) where

@@ -10,7 +10,6 @@ use replying::Addresses;
 
 mod obeying;
 mod receiving;
-mod standing;
 
 // The places of globals 66 and 76.
 const MODULE_ADDRESS: usize = 43;

@@ -8,7 +8,6 @@ ghost use Rattle.commands.specs.Obey.{obeyed};
 ghost use Rattle.reg_image.specs.Image.{registersOf};
 ghost use Rattle.cmd_turns.specs.Obeys.{Obeys};
 ghost use Rattle.board_datagrams.specs.Command.{Ready, Does};
-use crate::standing as machine;
 use cmd_turns::Obeyed;
 use reg_image::REGISTERS;
 use wire::Command;

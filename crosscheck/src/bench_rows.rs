@@ -44,7 +44,7 @@ impl Row {
         library.program.clone_from(&plain.program);
         plain.registers.sample(&SAMPLE);
         plain.registers.running = matches!(self.work, Work::Run);
-        library.registers.0 = plain.registers.image();
+        library.set_dumped(&plain.registers.image());
         (library, plain)
     }
 }

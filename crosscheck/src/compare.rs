@@ -6,12 +6,12 @@ use dhikmarul::place;
 
 use crate::board::{Answer, Board};
 use crate::event::{Event, Hex, PLACES};
-use crate::library::LibraryBoard;
+use crate::library::{image_place, LibraryBoard};
 use crate::plain::{status, Watch, CELLS_LENGTH, PROGRAM_LENGTH, RECORD_LENGTH};
 
 type Image = [i32; PLACES];
 
-/// The plain board, with the places of the image that its types cannot hold.
+/// The plain board, with the places of the dump that its types cannot hold.
 #[derive(Clone)]
 struct PlainSide {
     board: Board,
@@ -153,7 +153,7 @@ impl Pair {
         self.compared += 1;
         let board = &self.plain.board;
         let same = answers.is_none_or(|(expected, answer)| expected == answer)
-            && self.plain.image() == self.library.registers.0
+            && self.plain.image() == self.library.dumped()
             && board.cells == self.library.cells
             && board.reply == self.library.reply
             && board.program == self.library.program;
@@ -184,16 +184,16 @@ impl Pair {
         report_store(out, "record", RECORD_LENGTH, &board.program, &self.library.program)?;
         writeln!(out, "registers before: {:?}", self.before.image)?;
         writeln!(out, "registers after, plain:   {:?}", self.plain.image())?;
-        writeln!(out, "registers after, library: {:?}", self.library.registers.0)?;
+        writeln!(out, "registers after, library: {:?}", self.library.dumped())?;
         self.report_stores(out)?;
         self.report_script(event, out)
     }
 
     fn report_registers(&self, out: &mut String) -> fmt::Result {
-        let (plain, library) = (self.plain.image(), self.library.registers.0);
+        let (plain, library) = (self.plain.image(), self.library.dumped());
         for at in 0..PLACES {
             if plain[at] != library[at] {
-                let (name, before) = (place::name(at), self.before.image[at]);
+                let (name, before) = (place::name(image_place(at)), self.before.image[at]);
                 writeln!(
                     out,
                     "  {name}: before {before}, plain {}, library {}",

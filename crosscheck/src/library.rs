@@ -1,10 +1,21 @@
 //! A whole board of the library, reached over the C boundary.
 
-use dhikmarul::{place, Registers, Sample, Status};
+use dhikmarul::{place, Registers, Sample, Status, REGISTERS};
 
 use crate::board::{Answer, UNTOUCHED};
-use crate::event::{Bytes, Event};
+use crate::event::{Bytes, Event, PLACES};
 use crate::plain::{CELLS_LENGTH, DATAGRAM_LENGTH, PROGRAM_LENGTH, RECORD_LENGTH};
+
+/// Where the register at a place of the script's dump stands in the library's
+/// image: the dump has the axis parameters before the globals.
+pub fn image_place(at: usize) -> usize {
+    match at {
+        0..34 => at,
+        34..77 => at - 34 + place::AXIS,
+        77..81 => at - 77 + place::MODULE_ADDRESS,
+        _ => at - 81 + place::USER_VARIABLES,
+    }
+}
 
 /// The registers' image and the stores lent to the library.
 #[derive(Clone)]
@@ -26,7 +37,7 @@ impl LibraryBoard {
     pub fn new() -> LibraryBoard {
         let mut board = LibraryBoard {
             // Numbers no board has, so that a place power-up forgets shows.
-            registers: Registers([-77_777; place::USER_VARIABLES + 56]),
+            registers: Registers([-77_777; REGISTERS]),
             program: vec![0; PROGRAM_LENGTH],
             cells: vec![UNTOUCHED; CELLS_LENGTH],
             reply: vec![0; DATAGRAM_LENGTH],
@@ -34,6 +45,18 @@ impl LibraryBoard {
         dhikmarul::new_cells(&mut board.cells);
         board.registers.power_up(&board.cells);
         board
+    }
+
+    /// The registers as the numbers of the script's dump.
+    pub fn dumped(&self) -> [i32; PLACES] {
+        std::array::from_fn(|place| self.registers.0[image_place(place)])
+    }
+
+    /// Sets every register from the numbers of a dump.
+    pub fn set_dumped(&mut self, numbers: &[i32; PLACES]) {
+        for (place, &number) in numbers.iter().enumerate() {
+            self.registers.0[image_place(place)] = number;
+        }
     }
 
     /// Carries out an event.
@@ -72,7 +95,7 @@ impl LibraryBoard {
                 self.cells[cell * 4..cell * 4 + 4].copy_from_slice(&value.to_be_bytes());
             }
             // The wait's count goes in as its bits.
-            Event::Register { place, value } => self.registers.0[place] = value as i32,
+            Event::Register { place, value } => self.registers.0[image_place(place)] = value as i32,
             Event::Length { which: 0, length } => self.program.resize(length, 0),
             Event::Length { which: 1, length } => self.cells.resize(length, 0),
             Event::Length { length, .. } => self.reply.resize(length, 0),

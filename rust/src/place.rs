@@ -1,5 +1,7 @@
 //! Where each register stands in the image of [`Registers`](crate::Registers).
 
+use crate::REGISTERS;
+
 /// The accumulator.
 pub const ACCUMULATOR: usize = 0;
 /// The X register.
@@ -42,18 +44,18 @@ pub const ANALOG_INPUTS: usize = 22;
 pub const DEPTH: usize = 25;
 /// The first of the eight return addresses, first pushed first.
 pub const STACK: usize = 26;
-/// The first of the 43 axis parameters, by rising number; see [`axis`].
-pub const AXIS: usize = 34;
 /// Global 66, the module address.
-pub const MODULE_ADDRESS: usize = 77;
+pub const MODULE_ADDRESS: usize = 34;
 /// Global 73, the lock: 0 open, 1 locked.
-pub const LOCK: usize = 78;
+pub const LOCK: usize = 35;
 /// Global 76, the reply address.
-pub const REPLY_ADDRESS: usize = 79;
+pub const REPLY_ADDRESS: usize = 36;
 /// Global 77, whether power-up starts the program.
-pub const AUTOSTART: usize = 80;
+pub const AUTOSTART: usize = 37;
 /// The first of the 56 user variables.
-pub const USER_VARIABLES: usize = 81;
+pub const USER_VARIABLES: usize = 38;
+/// The first of the 43 axis parameters, by rising number; see [`axis`].
+pub const AXIS: usize = 94;
 
 /// The numbers of the 43 axis parameters, in the order of their places.
 pub const AXIS_NUMBERS: [u8; 43] = [
@@ -91,12 +93,13 @@ pub fn name(place: usize) -> String {
         DIGITAL_INPUTS..ANALOG_INPUTS => format!("digital input {}", place - DIGITAL_INPUTS),
         ANALOG_INPUTS..DEPTH => format!("analog input {}", place - ANALOG_INPUTS),
         DEPTH => "depth".into(),
-        STACK..AXIS => format!("return address {}", place - STACK),
-        AXIS..MODULE_ADDRESS => format!("axis {}", AXIS_NUMBERS[place - AXIS]),
+        STACK..MODULE_ADDRESS => format!("return address {}", place - STACK),
         MODULE_ADDRESS => "global 66".into(),
         LOCK => "global 73".into(),
         REPLY_ADDRESS => "global 76".into(),
         AUTOSTART => "global 77".into(),
-        _ => format!("user variable {}", place - USER_VARIABLES),
+        USER_VARIABLES..AXIS => format!("user variable {}", place - USER_VARIABLES),
+        AXIS..REGISTERS => format!("axis {}", AXIS_NUMBERS[place - AXIS]),
+        _ => format!("place {place}"),
     }
 }

@@ -10,6 +10,7 @@ use crate::tilt::command;
 use crate::trace;
 use crate::trace::Seen;
 use display::Received;
+use reg_image::REGISTERS;
 use std::num::wrapping_add_u64;
 use wire::Command;
 
@@ -29,7 +30,7 @@ fn received(reply: &[u8; 9]) {
 
 // A command as the display sends it to address 1, told only where it is to be. Answers the status.
 fn exchange(
-    image: &mut [i32; 137],
+    image: &mut [u32; REGISTERS],
     program: &mut [u8; 7168],
     cells: &mut [u8; 364],
     sent: Command,
@@ -38,7 +39,7 @@ fn exchange(
     let mut frame = [0u8; 9];
     let mut reply = [0u8; 9];
     display::build_command(&mut frame, 1, sent);
-    let status = image_datagrams::datagram(image, program, cells, &mut reply, &frame);
+    let status = board_datagrams::datagram(image, program, cells, &mut reply, &frame);
     if is_told {
         text(b"  ");
         crate::mnemonic::write(sent);
@@ -52,7 +53,7 @@ fn exchange(
 
 // A command of so many numbers, told with its reply.
 pub(crate) fn send(
-    image: &mut [i32; 137],
+    image: &mut [u32; REGISTERS],
     program: &mut [u8; 7168],
     cells: &mut [u8; 364],
     number: u8,
@@ -72,7 +73,7 @@ pub(crate) fn send(
 // The records from a place to an end, sent in download mode. Answers how many were put in program
 // memory.
 fn store_all(
-    image: &mut [i32; 137],
+    image: &mut [u32; REGISTERS],
     program: &mut [u8; 7168],
     cells: &mut [u8; 364],
     listed: &[u8; 7168],
@@ -94,7 +95,7 @@ fn store_all(
 
 // The listed program, through download mode: the first and the last record are told.
 pub(crate) fn load(
-    image: &mut [i32; 137],
+    image: &mut [u32; REGISTERS],
     program: &mut [u8; 7168],
     cells: &mut [u8; 364],
     listed: &[u8; 7168],
@@ -130,7 +131,7 @@ fn is_due(time: u64, before: Seen, after: Seen, has_moved: bool) -> bool {
 
 // 10 ms: the bracket moves, the board measures and runs, and the tick comes.
 fn turn(
-    image: &mut [i32; 137],
+    image: &mut [u32; REGISTERS],
     program: &[u8; 7168],
     cells: &mut [u8; 364],
     outside: Outside,
@@ -139,20 +140,20 @@ fn turn(
     let mut after = outside;
     after.position = bracket::moved(image, outside.position, outside.lowest);
     let fields = bracket::sample(image, after);
-    image_events::sample(image, &fields);
-    image_runs::run(image, program, cells, 1000);
+    board_events::sample(image, &fields);
+    board_runs::run(image, program, cells, 1000);
     let has_moved = after.position != outside.position;
     if is_due(outside.time, before, trace::look(image), has_moved) {
         trace::line(outside.time, before, image, program);
     }
-    image_events::tick(image);
+    board_events::tick(image);
     after.time = wrapping_add_u64(outside.time, 1);
     after
 }
 
 // So many ticks with the buttons held as they are.
 pub(crate) fn pass(
-    image: &mut [i32; 137],
+    image: &mut [u32; REGISTERS],
     program: &[u8; 7168],
     cells: &mut [u8; 364],
     outside: Outside,
@@ -168,9 +169,9 @@ pub(crate) fn pass(
 }
 
 // Ignition off and on: the working values go, the cells stay.
-pub(crate) fn ignite(image: &mut [i32; 137], cells: &[u8; 364]) {
-    image_events::power_up(image, cells);
-    if image[names::AT_RUNNING] == 1 {
+pub(crate) fn ignite(image: &mut [u32; REGISTERS], cells: &[u8; 364]) {
+    board_events::power_up(image, cells);
+    if reg_image::running(image) {
         text(b"Ignition on: global 77 is 1, so the program runs by itself.\n");
     } else {
         text(b"Ignition on: global 77 is 0, so the program does not run.\n");

@@ -1,6 +1,8 @@
 // The bracket that the motor tilts: 10 ms of it at a time. The board does not move it; it only gives the
 // order that the motor follows.
 use crate::names;
+use reg_image::REGISTERS;
+use registers::Order;
 use words::Word;
 
 // Where the right limit switch is. There is no left one.
@@ -16,9 +18,14 @@ pub(crate) struct Outside {
     pub(crate) down: i32,
 }
 
+// An axis parameter, by its number.
+pub(crate) fn parameter(image: &[u32; REGISTERS], number: u8) -> Word {
+    reg_image::value(image, places::axis_place(number))
+}
+
 // A word from 0 up; the bracket has no place and no way below 0.
-fn size(v: i32) -> u64 {
-    let bits = words::bits_of(Word { v: v }) as u64;
+fn size(w: Word) -> u64 {
+    let bits = words::bits_of(w) as u64;
     if bits < 2147483648 { bits } else { 0 }
 }
 
@@ -60,28 +67,27 @@ fn toward(position: u64, target: u64, way: u64, lowest: u64) -> u64 {
 
 // The position 10 ms on under the board's order: at a velocity to the right, or to the target position
 // at the speed limit.
-pub(crate) fn moved(image: &[i32; 137], position: u64, lowest: u64) -> u64 {
-    match image[names::AT_ORDER] {
-        names::VELOCITY => raised(position, size(image[names::AT_VELOCITY]) / 100, TOP),
-        names::POSITION => toward(
+pub(crate) fn moved(image: &[u32; REGISTERS], position: u64, lowest: u64) -> u64 {
+    let order = reg_image::motion_order(image);
+    match order {
+        Order::Velocity => raised(position, size(reg_image::velocity(image)) / 100, TOP),
+        Order::Position => toward(
             position,
-            size(image[names::AT_TARGET_POSITION]),
-            size(image[names::AT_SPEED_LIMIT]) / 100,
+            size(parameter(image, names::TARGET_POSITION)),
+            size(parameter(image, names::SPEED_LIMIT)) / 100,
             lowest,
         ),
-        _ => position,
+        Order::Stopped => position,
     }
 }
 
-fn is_at_target(image: &[i32; 137], position: i32) -> i32 {
-    if image[names::AT_ORDER] != names::POSITION {
+fn is_at_target(image: &[u32; REGISTERS], position: i32) -> i32 {
+    let order = reg_image::motion_order(image);
+    let Order::Position = order else {
         return 0;
-    }
-    if image[names::AT_TARGET_POSITION] == position {
-        1
-    } else {
-        0
-    }
+    };
+    let target = parameter(image, names::TARGET_POSITION);
+    if target.v == position { 1 } else { 0 }
 }
 
 fn is_at_top(position: u64) -> i32 {
@@ -90,7 +96,7 @@ fn is_at_top(position: u64) -> i32 {
 
 // What the board measures: positions, the reached flag, three switches, supply voltage, temperature,
 // the buttons, three analog inputs, three alarms.
-pub(crate) fn sample(image: &[i32; 137], outside: Outside) -> [i32; 16] {
+pub(crate) fn sample(image: &[u32; REGISTERS], outside: Outside) -> [i32; 16] {
     let right = is_at_top(outside.position);
     let at = word(outside.position);
     let reached = is_at_target(image, at);

@@ -10,6 +10,7 @@ mod trace;
 
 use bracket::Outside;
 use print::text;
+use reg_image::REGISTERS;
 use std::num::wrapping_add_u64;
 use tilt::command;
 
@@ -29,13 +30,13 @@ fn show_check(listed: &mut [u8; 7168]) {
 }
 
 fn show_loading(
-    image: &mut [i32; 137],
+    image: &mut [u32; REGISTERS],
     program: &mut [u8; 7168],
     cells: &mut [u8; 364],
     listed: &[u8; 7168],
 ) {
     text(b"\n3. A new board is loaded: nine bytes there, nine bytes back\n");
-    image_events::new_cells(cells);
+    board_events::new_cells(cells);
     bench::ignite(image, cells);
     bench::load(image, program, cells, listed, tilt::RECORDS);
     bench::send(image, program, cells, names::READ_PROGRAM, 1, 0, 9);
@@ -43,7 +44,7 @@ fn show_loading(
     tilt::check(b"  the board's own program store, checked: ", program);
 }
 
-fn show_settings(image: &mut [i32; 137], program: &mut [u8; 7168], cells: &mut [u8; 364]) {
+fn show_settings(image: &mut [u32; REGISTERS], program: &mut [u8; 7168], cells: &mut [u8; 364]) {
     text(
         b"\n4. Settings that are to last: the speed limit 43 by SAP and STAP, autostart 77 by SGP\n",
     );
@@ -62,7 +63,7 @@ fn show_settings(image: &mut [i32; 137], program: &mut [u8; 7168], cells: &mut [
 
 // Up to the limit switch.
 fn show_up(
-    image: &mut [i32; 137],
+    image: &mut [u32; REGISTERS],
     program: &[u8; 7168],
     cells: &mut [u8; 364],
     outside: Outside,
@@ -82,7 +83,7 @@ fn show_up(
 
 // Down onto a stone, and down to the end.
 fn show_down(
-    image: &mut [i32; 137],
+    image: &mut [u32; REGISTERS],
     program: &[u8; 7168],
     cells: &mut [u8; 364],
     outside: Outside,
@@ -104,7 +105,7 @@ fn show_down(
     bench::pass(image, program, cells, now, 15)
 }
 
-fn show_driving(image: &mut [i32; 137], program: &[u8; 7168], cells: &mut [u8; 364]) {
+fn show_driving(image: &mut [u32; REGISTERS], program: &[u8; 7168], cells: &mut [u8; 364]) {
     text(
         b"\n5. The driver: a line for a tick of 10 ms in which something happens, with outputs 0 to 3\n",
     );
@@ -123,9 +124,9 @@ fn show_driving(image: &mut [i32; 137], program: &[u8; 7168], cells: &mut [u8; 3
 
 // How many of the registers and of the bytes of the cells are not as they were.
 fn changes(
-    image: &[i32; 137],
+    image: &[u32; REGISTERS],
     cells: &[u8; 364],
-    old_image: &[i32; 137],
+    old_image: &[u32; REGISTERS],
     old_cells: &[u8; 364],
 ) -> u64 {
     let mut count = 0u64;
@@ -144,7 +145,7 @@ fn changes(
     count
 }
 
-fn show_refusal(image: &mut [i32; 137], program: &mut [u8; 7168], cells: &mut [u8; 364]) {
+fn show_refusal(image: &mut [u32; REGISTERS], program: &mut [u8; 7168], cells: &mut [u8; 364]) {
     text(
         b"\n6. A refused command changes nothing: a speed limit above 200000, and a jump outside a program\n",
     );
@@ -169,7 +170,7 @@ fn show_refusal(image: &mut [i32; 137], program: &mut [u8; 7168], cells: &mut [u
 }
 
 // One setting with STAP and one without.
-fn set_both(image: &mut [i32; 137], program: &mut [u8; 7168], cells: &mut [u8; 364]) {
+fn set_both(image: &mut [u32; REGISTERS], program: &mut [u8; 7168], cells: &mut [u8; 364]) {
     bench::send(
         image,
         program,
@@ -191,7 +192,7 @@ fn set_both(image: &mut [i32; 137], program: &mut [u8; 7168], cells: &mut [u8; 3
     );
 }
 
-fn read_both(image: &mut [i32; 137], program: &mut [u8; 7168], cells: &mut [u8; 364]) {
+fn read_both(image: &mut [u32; REGISTERS], program: &mut [u8; 7168], cells: &mut [u8; 364]) {
     bench::send(image, program, cells, names::GAP, names::SPEED_LIMIT, 0, 0);
     bench::send(
         image,
@@ -204,7 +205,7 @@ fn read_both(image: &mut [i32; 137], program: &mut [u8; 7168], cells: &mut [u8; 
     );
 }
 
-fn show_store(image: &mut [i32; 137], program: &mut [u8; 7168], cells: &mut [u8; 364]) {
+fn show_store(image: &mut [u32; REGISTERS], program: &mut [u8; 7168], cells: &mut [u8; 364]) {
     text(b"\n7. Stored, and not stored: the speed limit 43 with STAP, the current 11 without\n");
     set_both(image, program, cells);
     text(
@@ -220,7 +221,7 @@ fn show_store(image: &mut [i32; 137], program: &mut [u8; 7168], cells: &mut [u8;
 }
 
 fn main() {
-    let mut image = [0i32; 137];
+    let mut image = [0u32; REGISTERS];
     let mut program = [0u8; 7168];
     let mut cells = [0u8; 364];
     let mut listed = [0u8; 7168];

@@ -1,4 +1,4 @@
-// Numbers of commands and their types, of parameters, and of places in the image, by their names.
+// Numbers of commands and their types, and of parameters, by their names.
 pub(crate) const ROR: u8 = 1;
 
 pub(crate) const MST: u8 = 3;
@@ -59,44 +59,15 @@ pub(crate) const SPEED_LIMIT: u8 = 43;
 
 pub(crate) const ACCELERATION: u8 = 44;
 
+pub(crate) const TARGET_POSITION: u8 = 50;
+
+pub(crate) const ACTUAL_POSITION: u8 = 52;
+
+pub(crate) const REACHED: u8 = 55;
+
 pub(crate) const RIGHT_SWITCH: u8 = 211;
 
 pub(crate) const AUTO_START: u8 = 77;
 
 // The bank of the outputs.
 pub(crate) const OUTPUTS: u8 = 2;
-
-pub(crate) const AT_ETO: usize = 3;
-
-pub(crate) const AT_ADDRESS: usize = 7;
-
-pub(crate) const AT_RUNNING: usize = 8;
-
-pub(crate) const AT_WAIT_ARMED: usize = 9;
-
-pub(crate) const AT_WAIT_COUNT: usize = 10;
-
-pub(crate) const AT_ORDER: usize = 14;
-
-pub(crate) const AT_VELOCITY: usize = 15;
-
-pub(crate) const AT_OUTPUTS: usize = 16;
-
-pub(crate) const AT_DIGITAL: usize = 20;
-
-pub(crate) const AT_DEPTH: usize = 25;
-
-pub(crate) const AT_SPEED_LIMIT: usize = 38;
-
-pub(crate) const AT_TARGET_POSITION: usize = 41;
-
-pub(crate) const AT_ACTUAL_POSITION: usize = 43;
-
-pub(crate) const AT_REACHED: usize = 46;
-
-pub(crate) const AT_RIGHT_SWITCH: usize = 71;
-
-// Orders.
-pub(crate) const VELOCITY: i32 = 1;
-
-pub(crate) const POSITION: i32 = 2;

@@ -1,33 +1,55 @@
 // What changed on the board in 10 ms, and how it then stands, in one line.
+use crate::bracket::parameter;
 use crate::names;
 use crate::print::labelled;
 use crate::print::labelled_word;
-use crate::print::signed;
+use crate::print::number;
 use crate::print::text;
-use words::Word;
+use reg_image::REGISTERS;
+use registers::Order;
+
+const STOPPED: u32 = 0;
+
+const VELOCITY: u32 = 1;
+
+const POSITION: u32 = 2;
 
 // What a line tells of where it changes.
 pub(crate) struct Seen {
-    up: i32,
-    down: i32,
-    right: i32,
-    reached: i32,
-    order: i32,
-    output_0: i32,
-    output_1: i32,
-    eto: i32,
+    up: u32,
+    down: u32,
+    right: u32,
+    reached: u32,
+    order: u32,
+    output_0: u32,
+    output_1: u32,
+    eto: u32,
 }
 
-pub(crate) fn look(image: &[i32; 137]) -> Seen {
+// The bits of an axis parameter, by its number.
+fn bits(image: &[u32; REGISTERS], number: u8) -> u32 {
+    words::bits_of(parameter(image, number))
+}
+
+// A number for each order.
+fn order_number(o: Order) -> u32 {
+    match o {
+        Order::Stopped => STOPPED,
+        Order::Velocity => VELOCITY,
+        Order::Position => POSITION,
+    }
+}
+
+pub(crate) fn look(image: &[u32; REGISTERS]) -> Seen {
     Seen {
-        up: image[names::AT_DIGITAL],
-        down: image[names::AT_DIGITAL + 1],
-        right: image[names::AT_RIGHT_SWITCH],
-        reached: image[names::AT_REACHED],
-        order: image[names::AT_ORDER],
-        output_0: image[names::AT_OUTPUTS],
-        output_1: image[names::AT_OUTPUTS + 1],
-        eto: image[names::AT_ETO],
+        up: reg_image::digital(image, 0),
+        down: reg_image::digital(image, 1),
+        right: bits(image, names::RIGHT_SWITCH),
+        reached: bits(image, names::REACHED),
+        order: order_number(reg_image::motion_order(image)),
+        output_0: reg_image::output(image, 0),
+        output_1: reg_image::output(image, 1),
+        eto: reg_image::eto(image),
     }
 }
 
@@ -61,7 +83,7 @@ pub(crate) fn is_same(a: Seen, b: Seen) -> bool {
 }
 
 // The words for a number that was 0 or 1 and is the other now.
-fn turned(was: i32, is: i32, on: &[u8], off: &[u8]) {
+fn turned(was: u32, is: u32, on: &[u8], off: &[u8]) {
     if was == is {
         return;
     }
@@ -72,13 +94,13 @@ fn turned(was: i32, is: i32, on: &[u8], off: &[u8]) {
     }
 }
 
-fn ordered(was: i32, is: i32) {
+fn ordered(was: u32, is: u32) {
     if was == is {
         return;
     }
     match is {
-        names::VELOCITY => text(b"the motor turns; "),
-        names::POSITION => text(b"the motor goes to a position; "),
+        VELOCITY => text(b"the motor turns; "),
+        POSITION => text(b"the motor goes to a position; "),
         _ => text(b"the motor stops; "),
     }
 }
@@ -109,39 +131,42 @@ fn happened(a: Seen, b: Seen) {
     turned(a.output_1, b.output_1, b"output 1 on; ", b"output 1 off; ");
 }
 
-fn order(image: &[i32; 137]) {
-    match image[names::AT_ORDER] {
-        names::VELOCITY => labelled_word(b", order velocity ", image[names::AT_VELOCITY]),
-        names::POSITION => labelled_word(b", order position ", image[names::AT_TARGET_POSITION]),
-        _ => text(b", order stopped"),
+fn order(image: &[u32; REGISTERS]) {
+    let given = reg_image::motion_order(image);
+    let velocity = reg_image::velocity(image);
+    let target = parameter(image, names::TARGET_POSITION);
+    match given {
+        Order::Velocity => labelled_word(b", order velocity ", velocity.v),
+        Order::Position => labelled_word(b", order position ", target.v),
+        Order::Stopped => text(b", order stopped"),
     }
 }
 
-fn outputs(image: &[i32; 137]) {
-    labelled_word(b", outputs ", image[names::AT_OUTPUTS]);
-    signed(image[names::AT_OUTPUTS + 1]);
-    signed(image[names::AT_OUTPUTS + 2]);
-    signed(image[names::AT_OUTPUTS + 3]);
+fn outputs(image: &[u32; REGISTERS]) {
+    labelled(b", outputs ", reg_image::output(image, 0) as u64);
+    number(reg_image::output(image, 1) as u64);
+    number(reg_image::output(image, 2) as u64);
+    number(reg_image::output(image, 3) as u64);
 }
 
 // Where the program stands, and what of a wait is left.
-fn place(image: &[i32; 137], program: &[u8; 7168]) {
-    let address = image[names::AT_ADDRESS];
-    labelled_word(b"; at ", address);
+fn place(image: &[u32; REGISTERS], program: &[u8; 7168]) {
+    let address = reg_image::address(image);
+    labelled(b"; at ", address as u64);
     text(b" ");
-    let at = words::bits_of(Word { v: address }) as usize;
-    crate::mnemonic::write(store::record_at(program, at));
-    if image[names::AT_WAIT_ARMED] != 0 {
-        labelled_word(b", ticks left ", image[names::AT_WAIT_COUNT]);
+    crate::mnemonic::write(store::record_at(program, address as usize));
+    if reg_image::armed(image) {
+        labelled(b", ticks left ", reg_image::count(image) as u64);
     }
-    labelled_word(b", depth ", image[names::AT_DEPTH]);
+    labelled(b", depth ", reg_image::depth(image) as u64);
 }
 
-pub(crate) fn line(time: u64, before: Seen, image: &[i32; 137], program: &[u8; 7168]) {
+pub(crate) fn line(time: u64, before: Seen, image: &[u32; REGISTERS], program: &[u8; 7168]) {
     labelled(b"  tick ", time);
     text(b": ");
     happened(before, look(image));
-    labelled_word(b"position ", image[names::AT_ACTUAL_POSITION]);
+    let position = parameter(image, names::ACTUAL_POSITION);
+    labelled_word(b"position ", position.v);
     order(image);
     outputs(image);
     place(image, program);

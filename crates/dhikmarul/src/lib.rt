@@ -2,72 +2,78 @@
 //
 // `include/dhikmarul.h` says what each argument and each number is. A slice is a pointer and a length; an
 // array of known length is a pointer alone. Each function does what the one of its name does in
-// `image_events`, `image_datagrams`, `image_runs` or `numbered`, and takes every input.
+// `board_events`, `board_datagrams`, `board_runs` or `numbered`, and takes every input. A register's number
+// stands in the image by its bits, so C may read it as signed.
 ghost use mathlib.Core.Path.{_≡_};
-ghost use Rattle.image_events.specs.Events as events;
-ghost use Rattle.image_datagrams.specs.Datagram as datagrams;
-ghost use Rattle.image_runs.specs.Run as runs;
+ghost use Rattle.board.specs.Registers.{powered};
+ghost use Rattle.events.specs.Events.{withTick, withSample};
+ghost use Rattle.reg_image.specs.Image.{registersOf};
+ghost use Rattle.board_events.specs.Standing.{Told};
+ghost use Rattle.board_events.specs.Events as events;
+ghost use Rattle.board_datagrams.specs.Datagram.{Answers};
+ghost use Rattle.board_runs.specs.Run.{Runs, answered};
 ghost use Rattle.numbered.specs.Host as host;
 ghost use Rattle.dhikmarul.specs.Answers.{Checked};
+use reg_image::REGISTERS;
 
 // The cells of a new board.
 #[no_mangle]
 pub extern "C" fn dhikmarul_new_cells(cells: &mut [u8]) -> u8
     ensures { λ r. ⌜ events.cellsLeft r (now (cells .exit)) ≡ events.newCells (now (cells .entry)) ⌝ }
 {
-    image_events::new_cells(cells)
+    board_events::new_cells(cells)
 }
 
 // Power-up.
 #[no_mangle]
-pub extern "C" fn dhikmarul_power_up(registers: &mut [i32; 137], cells: &[u8]) -> u8
-    ensures { λ r. ⌜ events.told r (now (registers .exit)) ≡ events.poweredUp (now (cells .entry)) (now (registers .entry)) ⌝ }
+pub extern "C" fn dhikmarul_power_up(registers: &mut [u32; REGISTERS], cells: &[u8]) -> u8
+    ensures { λ r. ⌜ Told (events.powerStatus (now (cells .entry))) (powered (now (cells .entry))) (now (registers .entry)) (now (registers .exit)) r ⌝ }
 {
-    image_events::power_up(registers, cells)
+    board_events::power_up(registers, cells)
 }
 
 // A datagram.
 #[no_mangle]
 pub extern "C" fn dhikmarul_datagram(
-    registers: &mut [i32; 137],
+    registers: &mut [u32; REGISTERS],
     program: &mut [u8],
     cells: &mut [u8],
     reply: &mut [u8],
     bytes: &[u8],
 ) -> u8
-    ensures { λ r. ⌜ datagrams.left r (now (registers .exit)) (now (program .exit)) (now (cells .exit)) (now (reply .exit)) ≡ datagrams.datagram (now (bytes .entry)) (now (registers .entry)) (now (program .entry)) (now (cells .entry)) (now (reply .entry)) ⌝ }
+    ensures { λ r. ⌜ Answers (now (bytes .entry)) (now (registers .entry)) (now (program .entry)) (now (cells .entry)) (now (reply .entry)) r (now (registers .exit)) (now (program .exit)) (now (cells .exit)) (now (reply .exit)) ⌝ }
 {
-    image_datagrams::datagram(registers, program, cells, reply, bytes)
+    board_datagrams::datagram(registers, program, cells, reply, bytes)
 }
 
 // A sample of sixteen fields.
 #[no_mangle]
-pub extern "C" fn dhikmarul_sample(registers: &mut [i32; 137], fields: &[i32; 16]) -> u8
-    ensures { λ r. ⌜ events.told r (now (registers .exit)) ≡ events.sampled (now (fields .entry)) (now (registers .entry)) ⌝ }
+pub extern "C" fn dhikmarul_sample(registers: &mut [u32; REGISTERS], fields: &[i32; 16]) -> u8
+    ensures { λ r. ⌜ Told (events.sampleStatus (now (fields .entry)) (now (registers .entry))) (withSample (events.sampleOf (now (fields .entry))) (registersOf (now (registers .entry)))) (now (registers .entry)) (now (registers .exit)) r ⌝ }
 {
-    image_events::sample(registers, fields)
+    board_events::sample(registers, fields)
 }
 
 // A tick.
 #[no_mangle]
-pub extern "C" fn dhikmarul_tick(registers: &mut [i32; 137]) -> u8
-    ensures { λ r. ⌜ events.told r (now (registers .exit)) ≡ events.ticked (now (registers .entry)) ⌝ }
+pub extern "C" fn dhikmarul_tick(registers: &mut [u32; REGISTERS]) -> u8
+    ensures { λ r. ⌜ Told (events.tickStatus (now (registers .entry))) (withTick (registersOf (now (registers .entry)))) (now (registers .entry)) (now (registers .exit)) r ⌝ }
 {
-    image_events::tick(registers)
+    board_events::tick(registers)
 }
 
 // A run, and how many steps it made.
 #[no_mangle]
 pub extern "C" fn dhikmarul_run(
-    registers: &mut [i32; 137],
+    registers: &mut [u32; REGISTERS],
     program: &[u8],
     cells: &mut [u8],
     budget: usize,
     steps: &mut usize,
 ) -> u8
-    ensures { λ r. ⌜ runs.left (runs.ran r (now (steps .exit))) (now (registers .exit)) (now (cells .exit)) ≡ runs.run (now (program .entry)) budget (now (registers .entry)) (now (cells .entry)) ⌝ }
+    ensures { λ r. ⌜ Runs (now (program .entry)) budget (now (registers .entry)) (now (cells .entry)) (answered r (now (steps .exit))) (now (registers .exit)) (now (cells .exit)) ⌝ }
 {
-    let ran = image_runs::run(registers, program, cells, budget);
+    let ran = board_runs::run(registers, program, cells, budget);
     *steps = ran.steps;
     ran.status
 }

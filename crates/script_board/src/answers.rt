@@ -2,11 +2,12 @@
 use crate::event_lines;
 use crate::looking;
 use crate::setting;
+use reg_image::REGISTERS;
 
 // The words that answer a line that looks at the board or sets it up. Answers the place behind them,
 // 0 where the line does not read.
 fn aside(
-    image: &mut [i32; 137],
+    image: &mut [u32; REGISTERS],
     program: &mut [u8; 8192],
     cells: &mut [u8; 8192],
     reply: &mut [u8; 8192],
@@ -29,7 +30,7 @@ fn aside(
 
 // The same of any line.
 fn words_of(
-    image: &mut [i32; 137],
+    image: &mut [u32; REGISTERS],
     program: &mut [u8; 8192],
     cells: &mut [u8; 8192],
     reply: &mut [u8; 8192],
@@ -67,7 +68,7 @@ pub(crate) const LONGEST: usize = 16384;
 
 // The answer to a line of the script that has this number. Answers the place behind it.
 pub(crate) fn answer(
-    image: &mut [i32; 137],
+    image: &mut [u32; REGISTERS],
     program: &mut [u8; 8192],
     cells: &mut [u8; 8192],
     reply: &mut [u8; 8192],

@@ -3,6 +3,7 @@
 // Each function answers the place behind the words that it put, 0 where the line does not read.
 use crate::stores::size;
 use crate::stores::within;
+use reg_image::REGISTERS;
 use words::Word;
 
 // A letter, and the status behind it.
@@ -29,7 +30,7 @@ fn replied(status: u8) -> u64 {
 
 // A datagram, lent the stores at their lengths.
 fn tell(
-    image: &mut [i32; 137],
+    image: &mut [u32; REGISTERS],
     program: &mut [u8],
     cells: &mut [u8],
     reply: &mut [u8],
@@ -41,7 +42,7 @@ fn tell(
     let c = within(lengths[1], cells);
     let r = within(lengths[2], reply);
     let n = within(count, bytes);
-    image_datagrams::datagram(
+    board_datagrams::datagram(
         image,
         &mut program[..p],
         &mut cells[..c],
@@ -52,7 +53,7 @@ fn tell(
 
 // A datagram of so many bytes, its status, and the reply buffer.
 fn told(
-    image: &mut [i32; 137],
+    image: &mut [u32; REGISTERS],
     program: &mut [u8; 8192],
     cells: &mut [u8; 8192],
     reply: &mut [u8; 8192],
@@ -69,7 +70,7 @@ fn told(
 }
 
 pub(crate) fn datagram(
-    image: &mut [i32; 137],
+    image: &mut [u32; REGISTERS],
     program: &mut [u8; 8192],
     cells: &mut [u8; 8192],
     reply: &mut [u8; 8192],
@@ -97,7 +98,7 @@ pub(crate) fn datagram(
 }
 
 pub(crate) fn sample(
-    image: &mut [i32; 137],
+    image: &mut [u32; REGISTERS],
     line: &[u8],
     out: &mut [u8; 65536],
     at: usize,
@@ -106,19 +107,24 @@ pub(crate) fn sample(
     if text::numbers_at(line, 1, 16, &mut fields) != line.len() {
         return 0;
     }
-    put_status(out, at, b's', image_events::sample(image, &fields))
+    put_status(out, at, b's', board_events::sample(image, &fields))
 }
 
-pub(crate) fn tick(image: &mut [i32; 137], line: &[u8], out: &mut [u8; 65536], at: usize) -> usize {
+pub(crate) fn tick(
+    image: &mut [u32; REGISTERS],
+    line: &[u8],
+    out: &mut [u8; 65536],
+    at: usize,
+) -> usize {
     if line.len() != 1 {
         return 0;
     }
-    put_status(out, at, b't', image_events::tick(image))
+    put_status(out, at, b't', board_events::tick(image))
 }
 
 // A run, lent the stores at their lengths.
 fn ran(
-    image: &mut [i32; 137],
+    image: &mut [u32; REGISTERS],
     program: &[u8],
     cells: &mut [u8],
     lengths: &[usize; 3],
@@ -128,13 +134,13 @@ fn ran(
 ) -> usize {
     let p = within(lengths[0], program);
     let c = within(lengths[1], cells);
-    let done = image_runs::run(image, &program[..p], &mut cells[..c], budget);
+    let done = board_runs::run(image, &program[..p], &mut cells[..c], budget);
     let behind = put_status(out, at, b'r', done.status);
     text::put_number(out, behind, done.steps as u64)
 }
 
 pub(crate) fn run(
-    image: &mut [i32; 137],
+    image: &mut [u32; REGISTERS],
     program: &[u8; 8192],
     cells: &mut [u8; 8192],
     lengths: &[usize; 3],
@@ -153,13 +159,13 @@ pub(crate) fn run(
 }
 
 // Power-up, lent the parameter store at its length.
-pub(crate) fn powered(image: &mut [i32; 137], cells: &[u8], length: usize) -> u8 {
+pub(crate) fn powered(image: &mut [u32; REGISTERS], cells: &[u8], length: usize) -> u8 {
     let c = within(length, cells);
-    image_events::power_up(image, &cells[..c])
+    board_events::power_up(image, &cells[..c])
 }
 
 pub(crate) fn power_up(
-    image: &mut [i32; 137],
+    image: &mut [u32; REGISTERS],
     cells: &[u8; 8192],
     lengths: &[usize; 3],
     line: &[u8],

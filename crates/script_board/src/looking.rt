@@ -1,7 +1,7 @@
 // The dump: the registers in their order, and each store's length and mix.
 ghost use Prim.Native.Nat.{_≤_, _<_};
 use crate::stores::within;
-use words::Word;
+use reg_image::REGISTERS;
 
 // The mix of a store is h = (h * FACTOR + byte) mod 2^32 for each byte. Four bytes are mixed at once,
 // by the factor's powers mod 2^32, so that a dump is not spent on waiting for products.
@@ -19,6 +19,18 @@ const FULL: u64 = 4294967296;
 
 // The place of the wait's count, the one register that has no sign.
 const COUNT: usize = 10;
+
+// Where the register at a place of the dump stands in the image, which has the axis parameters behind the
+// globals and the user variables.
+pub(crate) fn image_place(place: usize) -> usize
+    requires { ⌜ place < 137 ⌝ }
+    ensures { λ r. ⌜ r < 137 ⌝ }
+{
+    if place < 34 {
+        return place;
+    }
+    if place < 77 { place + 60 } else { place - 43 }
+}
 
 fn wide(b: u8) -> u64
     ensures { λ r. ⌜ r ≤ 255 ⌝ }
@@ -55,23 +67,28 @@ fn put_store(out: &mut [u8; 65536], at: usize, store: &[u8], length: usize) -> u
     text::put_number(out, behind, mix(&store[..n]))
 }
 
-fn put_registers(image: &[i32; 137], out: &mut [u8; 65536], at: usize) -> usize {
+// A register's number: the wait's count as it is, any other with its sign.
+fn put_register(number: u32, is_count: bool, out: &mut [u8; 65536], at: usize) -> usize {
+    if is_count {
+        return text::put_number(out, at, number as u64);
+    }
+    let word = words::of_bits(number);
+    text::put_signed(out, at, word.v)
+}
+
+fn put_registers(image: &[u32; REGISTERS], out: &mut [u8; 65536], at: usize) -> usize {
     let mut end = at;
     let mut i = 0;
     while i < 137 {
-        let v = image[i];
-        end = if i == COUNT {
-            text::put_number(out, end, words::bits_of(Word { v: v }) as u64)
-        } else {
-            text::put_signed(out, end, v)
-        };
+        let place = image_place(i);
+        end = put_register(image[place], i == COUNT, out, end);
         i += 1;
     }
     end
 }
 
 pub(crate) fn dump(
-    image: &[i32; 137],
+    image: &[u32; REGISTERS],
     program: &[u8; 8192],
     cells: &[u8; 8192],
     reply: &[u8; 8192],

@@ -10,6 +10,7 @@ use crate::setting;
 use crate::stores::within;
 use libc::STDIN_FILENO;
 use libc::STDOUT_FILENO;
+use reg_image::REGISTERS;
 use std::num::wrapping_add_u64;
 use std::num::wrapping_add_usize;
 
@@ -56,7 +57,7 @@ fn line_end(piece: &[u8], from: usize) -> usize
 
 // The answer to a line, or to the end of one whose begin is dropped.
 fn answer(
-    image: &mut [i32; 137],
+    image: &mut [u32; REGISTERS],
     program: &mut [u8; 8192],
     cells: &mut [u8; 8192],
     reply: &mut [u8; 8192],
@@ -75,7 +76,7 @@ fn answer(
 
 // The answers to a piece's whole lines, as long as there is room.
 fn lines(
-    image: &mut [i32; 137],
+    image: &mut [u32; REGISTERS],
     program: &mut [u8; 8192],
     cells: &mut [u8; 8192],
     reply: &mut [u8; 8192],
@@ -124,7 +125,7 @@ fn lines(
 
 // The same, of so many bytes at the front of the buffer.
 fn lines_within(
-    image: &mut [i32; 137],
+    image: &mut [u32; REGISTERS],
     program: &mut [u8; 8192],
     cells: &mut [u8; 8192],
     reply: &mut [u8; 8192],
@@ -226,7 +227,7 @@ fn more(input: &mut [u8], before: Reading) -> Reading {
 
 // The last line, which no line feed ends.
 fn last(
-    image: &mut [i32; 137],
+    image: &mut [u32; REGISTERS],
     program: &mut [u8; 8192],
     cells: &mut [u8; 8192],
     reply: &mut [u8; 8192],
@@ -258,7 +259,7 @@ fn last(
 
 // One piece of the script, answered.
 fn turn(
-    image: &mut [i32; 137],
+    image: &mut [u32; REGISTERS],
     program: &mut [u8; 8192],
     cells: &mut [u8; 8192],
     reply: &mut [u8; 8192],
@@ -283,7 +284,7 @@ fn turn(
 // A proved loop has to end, and nothing says that a script does. So the loop counts its turns down,
 // from a number that no run uses up.
 fn turns(
-    image: &mut [i32; 137],
+    image: &mut [u32; REGISTERS],
     program: &mut [u8; 8192],
     cells: &mut [u8; 8192],
     reply: &mut [u8; 8192],
@@ -310,7 +311,7 @@ fn turns(
 
 // The script on standard input, played on a new board.
 pub fn play() {
-    let mut image = [0i32; 137];
+    let mut image = [0u32; REGISTERS];
     let mut program = [0u8; 8192];
     let mut cells = [0u8; 8192];
     let mut reply = [0u8; 8192];

@@ -2,24 +2,26 @@
 //
 // A line that does not read answers 0 and changes nothing; any other the place behind its letter.
 use crate::event_lines::powered;
+use crate::looking::image_place;
 use crate::stores::CELLS;
 use crate::stores::PROGRAM;
 use crate::stores::REPLY;
 use crate::stores::clear;
 use crate::stores::size;
 use crate::stores::within;
+use reg_image::REGISTERS;
 use text::Number;
 use words::Word;
 
 // The default cells.
 fn renew_cells(cells: &mut [u8]) {
     let n = within(CELLS, cells);
-    image_events::new_cells(&mut cells[..n]);
+    board_events::new_cells(&mut cells[..n]);
 }
 
 // No program, default cells, an empty reply buffer, powered up.
 pub(crate) fn new_board(
-    image: &mut [i32; 137],
+    image: &mut [u32; REGISTERS],
     program: &mut [u8; 8192],
     cells: &mut [u8; 8192],
     reply: &mut [u8; 8192],
@@ -35,7 +37,7 @@ pub(crate) fn new_board(
 }
 
 pub(crate) fn renew(
-    image: &mut [i32; 137],
+    image: &mut [u32; REGISTERS],
     program: &mut [u8; 8192],
     cells: &mut [u8; 8192],
     reply: &mut [u8; 8192],
@@ -124,7 +126,7 @@ pub(crate) fn cell(
     text::put(out, at, b'v')
 }
 
-// Whether the register at a place can hold a value: as wide as its kind, so that values out of its
+// Whether the register at a place of the dump can hold a value: as wide as its kind, so that values out of its
 // range can be set.
 fn holds(place: usize, value: Number) -> bool {
     match place {
@@ -141,22 +143,21 @@ fn holds(place: usize, value: Number) -> bool {
     }
 }
 
-// A register, where the place is one and can hold the value.
-fn put_register(image: &mut [i32; 137], place: usize, value: Number) -> bool {
+// A register by its place of the dump, where the place is one and can hold the value.
+fn put_register(image: &mut [u32; REGISTERS], place: usize, value: Number) -> bool {
     if 136 < place {
         return false;
     }
     if !holds(place, value) {
         return false;
     }
-    let word = value.word();
-    let v = word.v;
-    image[place] = v;
+    let at = image_place(place);
+    image[at] = words::bits_of(value.word());
     true
 }
 
 pub(crate) fn register(
-    image: &mut [i32; 137],
+    image: &mut [u32; REGISTERS],
     line: &[u8],
     out: &mut [u8; 65536],
     at: usize,

@@ -9,6 +9,7 @@ use crate::images::Loaded;
 use crate::images::PROGRAM;
 use libc::STDIN_FILENO;
 use libc::STDOUT_FILENO;
+use reg_image::REGISTERS;
 
 const STEPS: usize = 100;
 
@@ -45,7 +46,7 @@ fn receive(frame: &mut [u8; 9]) -> bool {
 
 // A datagram, its reply, and what the board does behind it. Answers whether the board goes on.
 fn turn(
-    image: &mut [i32; 137],
+    image: &mut [u32; REGISTERS],
     program: &mut [u8; 7168],
     cells: &mut [u8; 364],
     held_program: &mut [u8; 7168],
@@ -55,7 +56,7 @@ fn turn(
     cells_name: &[u8],
     program_name: &[u8],
 ) -> bool {
-    let status = image_datagrams::datagram(image, program, cells, reply, frame);
+    let status = board_datagrams::datagram(image, program, cells, reply, frame);
     if !images::keep(program_name, program, held_program) {
         return false;
     }
@@ -65,15 +66,15 @@ fn turn(
     if !send(status, reply) {
         return false;
     }
-    image_events::tick(image);
-    image_runs::run(image, program, cells, STEPS);
+    board_events::tick(image);
+    board_runs::run(image, program, cells, STEPS);
     images::keep(cells_name, cells, held_cells)
 }
 
 // A proved loop has to end, and nothing says that a line does. So the loop counts its turns down, from
 // a number that no run uses up.
 fn turns(
-    image: &mut [i32; 137],
+    image: &mut [u32; REGISTERS],
     program: &mut [u8; 7168],
     cells: &mut [u8; 364],
     held_program: &mut [u8; 7168],
@@ -107,7 +108,7 @@ fn turns(
 
 // The cells of a file, or the default ones. Answers false where the file is refused.
 fn take_cells(name: &[u8], cells: &mut [u8; 364], room: &mut [u8; 8192]) -> bool {
-    image_events::new_cells(cells);
+    board_events::new_cells(cells);
     if name.len() == 0 {
         return true;
     }
@@ -147,10 +148,10 @@ fn begin(
 ) {
     images::copy(program, held_program);
     images::copy(cells, held_cells);
-    let mut image = [0i32; 137];
+    let mut image = [0u32; REGISTERS];
     let mut reply = [0u8; 9];
     let mut frame = [0u8; 9];
-    image_events::power_up(&mut image, cells);
+    board_events::power_up(&mut image, cells);
     turns(
         &mut image,
         program,

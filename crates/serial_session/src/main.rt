@@ -93,7 +93,7 @@ fn put_file(
 // The cells of a new board.
 fn fresh_cells(image: &mut [u8]) {
     if 364 <= image.len() {
-        image_events::new_cells(&mut image[0..364]);
+        board_events::new_cells(&mut image[0..364]);
     }
 }
 

@@ -36,7 +36,7 @@ fn time(row: &Row) -> (f64, f64) {
         best.1 = best.1.min(timed(|| plain_turns(&mut plain, &row.work, turns)));
     }
     // Both did the same, so a difference would mean that one timed less work.
-    assert_eq!(library.registers.0, plain.registers.image(), "{}", row.name);
+    assert_eq!(library.dumped(), plain.registers.image(), "{}", row.name);
     assert_eq!(library.cells, plain.cells, "{}", row.name);
     assert_eq!(library.reply, plain.reply, "{}", row.name);
     let (verdict, plain_verdict) = (dhikmarul::check(&library.program), check(&plain.program));

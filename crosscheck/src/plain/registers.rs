@@ -148,7 +148,7 @@ impl Registers {
         image
     }
 
-    /// Sets the register at a place of the image. False, and nothing set,
+    /// Sets the register at a place of the dump. False, and nothing set,
     /// where the register's type cannot hold the value.
     pub fn set(&mut self, place: usize, value: i64) -> bool {
         self.try_set(place, value).is_some()

@@ -1,3 +1,0 @@
-pub mod Stores
-pub mod Trips
-pub mod Rules

@@ -1,37 +1,36 @@
--- The laws of refused events over an image. Assumes nothing.
+-- The laws of refused events of the board that ships. Assumes nothing.
 use Prim.Native.Nat.{ℕ}
 use mathlib.Core.Path.{_≡_, refl, sym, ap, _∙_}
 use mathlib.Core.Bool.{Bool, true, false, _&&_}
 use mathlib.Core.List.{List}
-use lib.Dec.{leb}
+use borrow.Author.Tests.{eqb-true}
+use lib.Dec.{eqb, leb}
 use lib.IntN.{ℤ}
-use lib.Seq.{sets}
-use Rattle.words.proofs.Bools.{either, not-other}
-use Rattle.store.specs.Store.{isProgramStore, isParameterStore}
+use Rattle.words.specs.Word.{pick}
+use Rattle.words.proofs.Bools.{is-T, each}
 use Rattle.board.specs.Range.{registersInRange}
 use Rattle.board.specs.declared.Registers.{Registers}
-use Rattle.image_parts.specs.Image.{isImage, decoded}
-use Rattle.image.proofs.Rules as image
-use Rattle.image.proofs.Stores.{whole}
-use Rattle.events.specs.Events as events
 use Rattle.datagrams.specs.Datagram as datagrams
-use Rattle.runs.specs.Run as runs
+use Rattle.datagrams.specs.Datagram.{lent}
+use Rattle.board.specs.Step.{steps}
+use Rattle.serial.specs.Serial.{takenOf}
+use Rattle.replying.specs.Reply.{byteOf}
+use Rattle.runs.specs.Run.{afterSteps}
 use Rattle.checking.specs.Check.{answerOf}
 use Rattle.checking.specs.Laws as check-laws
 use Rattle.checking.proofs.Unique as checking
-use Rattle.promises.specs.Laws as event-laws
 use Rattle.promises.specs.Commands as command-laws
-use Rattle.promises.proofs.Rules as promises
 use Rattle.promises.proofs.Refusals as refusals
-use Rattle.image_events.specs.Events.{Told, told, put, putOutcome, sampleOf, sampled, ticked}
-use Rattle.image_datagrams.specs.Datagram as datagrams-of
-use Rattle.image_runs.specs.Run as runs-of
+use Rattle.reg_image.specs.Image.{registersOf, shaped}
+use Rattle.reg_range.specs.Range.{stands}
+use Rattle.board_events.specs.Standing.{Leaving, Told}
+use Rattle.board_datagrams.specs.Datagram.{answered, Answers}
+use Rattle.board_runs.specs.Run as runs
+use Rattle.board_runs.specs.Run.{Runs, ran, refused}
+use Rattle.board_runs.specs.declared.Ran.{Ran}
 use Rattle.numbered.specs.Check.{numbersOf, Checks}
 use Rattle.numbered.specs.declared.Checked.{Checked}
-use Rattle.refusing.specs.Laws.{Numbers, Laws}
-
-the-events : event-laws.Laws
-the-events = promises.laws
+use Rattle.refusing.specs.Laws.{Laws}
 
 the-commands : command-laws.Commands
 the-commands = refusals.commands
@@ -39,42 +38,66 @@ the-commands = refusals.commands
 the-check : check-laws.Laws
 the-check = checking.laws
 
--- registers handed back as they were leave the image as it was
-module _ (l : List ℤ) (k : Numbers l) where
-  back : isImage l ≡ true → {r : Registers} → r ≡ decoded l → put l r ≡ l
-  back e h = ap (put l) h ∙ ap (sets l 0) (image.encode-decode l (k .size) (k .words) e) ∙ whole l l refl
+-- ---- power-up, sample and tick
+pub told-refused : (s : ℕ) (r : Registers) (l k : List ℕ) (n : ℕ) → Told s r l k n → (n ≡ 100 → ⊥) → k ≡ l
+told-refused s r l k n t h = by (eqb s 100) refl (t .leaves)
+  where
+    by : (b : Bool) → eqb s 100 ≡ b → Leaving b r l k → k ≡ l
+    by true e x = absurd (h (t .answers ∙ eqb-true s 100 e))
+    by false e x = x
 
-  pub tick-refused : (ticked l .status ≡ 100 → ⊥) → ticked l .image ≡ l
-  unfolding ticked
-  tick-refused =
-      either (λ (t : Told). (t .status ≡ 100 → ⊥) → t .image ≡ l) (isImage l) (putOutcome l (events.ticked (decoded l))) (told 23 l)
-      (λ e n. back e (the-events .tick-refused (decoded l) n)) (λ e n. refl)
+-- ---- a run
+module _ (program : List ℕ) (budget : ℕ) (l m : List ℕ) where
+  still : runs.lent program m && (stands l && leb budget 1000) ≡ false → (ran program budget l m .store ≡ m) × (ran program budget l m .steps ≡ 0)
+  unfolding ran
+  still h = by (runs.lent program m) (stands l) (leb budget 1000) h
+    where
+      by : (a b c : Bool) → a && (b && c) ≡ false
+          → (pick a (pick b (pick c (afterSteps (steps false program budget (registersOf l) m)) (refused 22 (registersOf l) m)) (refused 23 (registersOf l) m)) (refused 20 (registersOf l) m) .store ≡ m)
+          × (pick a (pick b (pick c (afterSteps (steps false program budget (registersOf l) m)) (refused 22 (registersOf l) m)) (refused 23 (registersOf l) m)) (refused 20 (registersOf l) m) .steps ≡ 0)
+      by true true true q = absurd (is-T false (sym q))
+      by true true false q = (refl, refl)
+      by true false c q = (refl, refl)
+      by false b c q = (refl, refl)
 
-  pub sample-refused : (f : List ℤ) → (sampled f l .status ≡ 100 → ⊥) → sampled f l .image ≡ l
-  unfolding sampled
-  sample-refused f =
-      either (λ (t : Told). (t .status ≡ 100 → ⊥) → t .image ≡ l) (isImage l) (putOutcome l (events.sampled (sampleOf f) (decoded l))) (told 23 l)
-      (λ e n. back e (the-events .sample-refused (sampleOf f) (decoded l) n)) (λ e n. refl)
+-- ---- a datagram
+module _ (bytes l p m b : List ℕ) where
+  abbrev x : datagrams.Board
+  x = datagrams.board (registersOf l) p m b
 
-  pub run-refused : (program : List ℕ) (budget : ℕ) (m : List ℕ) → isImage l && (isProgramStore program && isParameterStore m && (registersInRange (decoded l) && leb budget 1000)) ≡ false → (runs-of.run program budget l m .image ≡ l) × (runs-of.run program budget l m .cells ≡ m) × (runs-of.run program budget l m .ran .steps ≡ 0)
-  unfolding runs-of.run
-  run-refused program budget m n =
-      either (λ (t : runs-of.Left). (t .image ≡ l) × (t .cells ≡ m) × (t .ran .steps ≡ 0)) (isImage l) (runs-of.leftBy l (runs.run program budget (decoded l) m)) _
-      (λ e. let q = the-commands .run-refused program budget (decoded l) m (not-other (isImage l) _ e n) in (back e (q .0), q .1, q .2)) (λ e. (refl, refl, refl))
+  is-datagram : lent p m b && stands l ≡ true → answered bytes l p m b ≡ datagrams.datagram bytes x
+  unfolding answered datagrams.datagram stands
+  is-datagram h =
+      let s = each (lent p m b) (stands l) h in
+      let t = each (shaped l) (registersInRange (registersOf l)) (s .1) in
+      rw (s .0, t .0, t .1)
 
-  pub datagram-refused : (bytes p m b : List ℕ) → (datagrams-of.datagram bytes l p m b .status ≡ 100 → ⊥) → (datagrams-of.datagram bytes l p m b .status ≡ 101 → ⊥) → (datagrams-of.datagram bytes l p m b .image ≡ l) × (datagrams-of.datagram bytes l p m b .program ≡ p) × (datagrams-of.datagram bytes l p m b .cells ≡ m)
-  unfolding datagrams-of.datagram
-  datagram-refused bytes p m b =
-      let x = datagrams.board (decoded l) p m b in
-      either (λ (t : datagrams-of.Left). (t .status ≡ 100 → ⊥) → (t .status ≡ 101 → ⊥) → (t .image ≡ l) × (t .program ≡ p) × (t .cells ≡ m)) (isImage l) (datagrams-of.leftBy l (datagrams.datagram bytes x)) (datagrams-of.left (datagrams-of.refused (datagrams.lent p m b)) l p m b)
-      (λ e n o. let q = the-commands .datagram-refused bytes x n o in (back e (ap (λ (y : datagrams.Board). y .registers) q), ap (λ (y : datagrams.Board). y .program) q, ap (λ (y : datagrams.Board). y .store) q)) (λ e n o. (refl, refl, refl))
+  shut : lent p m b && stands l ≡ false → answered bytes l p m b .board ≡ x
+  unfolding answered
+  shut h = by (lent p m b) (stands l) h
+    where
+      by : (a c : Bool) → a && c ≡ false
+          → pick a (pick c (datagrams.received (takenOf (byteOf (registersOf l .values) 66) bytes) x) (datagrams.unchanged 23 x)) (datagrams.unchanged 20 x) .board ≡ x
+      by true true q = absurd (is-T false (sym q))
+      by true false q = refl
+      by false c q = refl
 
-pub datagram-shut : (bytes : List ℕ) (l : List ℤ) (p m b : List ℕ) → isImage l && (datagrams.lent p m b && registersInRange (decoded l)) ≡ false → datagrams-of.datagram bytes l p m b .reply ≡ b
-unfolding datagrams-of.datagram
-datagram-shut bytes l p m b n =
-    let x = datagrams.board (decoded l) p m b in
-    either (λ (t : datagrams-of.Left). t .reply ≡ b) (isImage l) (datagrams-of.leftBy l (datagrams.datagram bytes x)) (datagrams-of.left (datagrams-of.refused (datagrams.lent p m b)) l p m b)
-    (λ e. ap (λ (y : datagrams.Board). y .reply) (the-commands .datagram-shut bytes x (not-other (isImage l) _ e n))) (λ e. refl)
+  module _ (k q o c : List ℕ) (n : ℕ) (a : Answers bytes l p m b n k q o c) where
+    pub datagram-shut : lent p m b && stands l ≡ false → (k ≡ l) × (q ≡ p) × (o ≡ m) × (c ≡ b)
+    datagram-shut h =
+        let e = shut h in
+        (a .kept h, a .program ∙ ap (λ (y : datagrams.Board). y .program) e, a .cells ∙ ap (λ (y : datagrams.Board). y .store) e, a .reply ∙ ap (λ (y : datagrams.Board). y .reply) e)
+
+    pub datagram-refused : (n ≡ 100 → ⊥) → (n ≡ 101 → ⊥) → (registersOf k ≡ registersOf l) × (q ≡ p) × (o ≡ m)
+    datagram-refused f g = by (lent p m b && stands l) refl
+      where
+        by : (t : Bool) → lent p m b && stands l ≡ t → (registersOf k ≡ registersOf l) × (q ≡ p) × (o ≡ m)
+        by true h =
+            let i = is-datagram h in
+            let s = ap (λ (y : datagrams.After). y .status) i in
+            let e = ap (λ (y : datagrams.After). y .board) i ∙ the-commands .datagram-refused bytes x (λ z. f (a .status ∙ s ∙ z)) (λ z. g (a .status ∙ s ∙ z)) in
+            (a .makes ∙ ap (λ (y : datagrams.Board). y .registers) e, a .program ∙ ap (λ (y : datagrams.Board). y .program) e, a .cells ∙ ap (λ (y : datagrams.Board). y .store) e)
+        by false h = let e = datagram-shut h in (ap registersOf (e .0), e .1, e .2)
 
 pub one-check : (program : List ℕ) (c d : Checked) → Checks program c → Checks program d → c ≡ d
 one-check program c d x y =
@@ -84,10 +107,11 @@ one-check program c d x y =
 pub laws : Laws
 laws =
     record {
-      sample-refused = λ f l k. sample-refused l k f;
-      tick-refused = tick-refused;
-      run-refused = λ program budget l m k. run-refused l k program budget m;
-      datagram-refused = λ bytes l p m b k. datagram-refused l k bytes p m b;
+      power-up-refused = λ cells l k n t. told-refused _ _ l k n t;
+      sample-refused = λ f l k n t. told-refused _ _ l k n t;
+      tick-refused = λ l k n t. told-refused _ _ l k n t;
+      run-refused = λ program budget l m k n r t h. (t .kept h, t .store ∙ still program budget l m h .0, t .steps ∙ still program budget l m h .1);
+      datagram-refused = datagram-refused;
       datagram-shut = datagram-shut;
       one-check = one-check;
     }

@@ -1,41 +1,38 @@
--- What a refused event leaves, over an image of the registers.
+-- What a refused event of the board that ships leaves.
 use Prim.Native.Nat.{ℕ}
 use mathlib.Core.Path.{_≡_}
 use mathlib.Core.Bool.{false, _&&_}
 use mathlib.Core.List.{List}
 use lib.Dec.{leb}
 use lib.IntN.{ℤ}
-use lib.ListN.{length}
-use Rattle.store.specs.Store.{isProgramStore, isParameterStore}
-use Rattle.board.specs.Range.{registersInRange}
-use Rattle.image_parts.specs.Image.{isImage, decoded}
-use Rattle.image.specs.Laws.{AllWords}
+use Rattle.board.specs.Registers.{powered}
+use Rattle.events.specs.Events.{withTick, withSample}
 use Rattle.datagrams.specs.Datagram.{lent}
-use Rattle.image_events.specs.Events.{sampled, ticked}
-use Rattle.image_datagrams.specs.Datagram.{datagram}
-use Rattle.image_runs.specs.Run.{run}
+use Rattle.reg_image.specs.Image.{registersOf}
+use Rattle.reg_range.specs.Range.{stands}
+use Rattle.board_events.specs.Standing.{Told}
+use Rattle.board_events.specs.Events.{powerStatus, tickStatus, sampleStatus, sampleOf}
+use Rattle.board_datagrams.specs.Datagram.{Answers}
+use Rattle.board_runs.specs.Run as runs
+use Rattle.board_runs.specs.Run.{Runs}
+use Rattle.board_runs.specs.declared.Ran.{Ran}
 use Rattle.numbered.specs.Check.{Checks}
 use Rattle.numbered.specs.declared.Checked.{Checked}
 
--- what the type of an image holds
-pub record Numbers (l : List ℤ) : Type 0 where
-  pub size : length l ≡ 137
-  pub words : AllWords l
-
+-- l is the image that an event finds, k the one that it leaves; n is the number that it answers
 pub record Laws : Type 0 where
-  -- a sample, a tick or a run that is refused leaves the image, and a run the cells, with 0 steps
-  pub sample-refused : (f l : List ℤ) → Numbers l → (sampled f l .status ≡ 100 → ⊥) → sampled f l .image ≡ l
-  pub tick-refused : (l : List ℤ) → Numbers l → (ticked l .status ≡ 100 → ⊥) → ticked l .image ≡ l
-  pub run-refused : (program : List ℕ) (budget : ℕ) (l : List ℤ) (m : List ℕ) → Numbers l
-      → isImage l && (isProgramStore program && isParameterStore m && (registersInRange (decoded l) && leb budget 1000)) ≡ false
-      → (run program budget l m .image ≡ l) × (run program budget l m .cells ≡ m) × (run program budget l m .ran .steps ≡ 0)
-  -- a datagram that is answered anything but 100 and 101 leaves the image and both stores
-  pub datagram-refused : (bytes : List ℕ) (l : List ℤ) (p m b : List ℕ) → Numbers l
-      → (datagram bytes l p m b .status ≡ 100 → ⊥) → (datagram bytes l p m b .status ≡ 101 → ⊥)
-      → (datagram bytes l p m b .image ≡ l) × (datagram bytes l p m b .program ≡ p) × (datagram bytes l p m b .cells ≡ m)
-  -- and the reply buffer where lent memory has another length or the registers are out of range
-  pub datagram-shut : (bytes : List ℕ) (l : List ℤ) (p m b : List ℕ)
-      → isImage l && (lent p m b && registersInRange (decoded l)) ≡ false
-      → datagram bytes l p m b .reply ≡ b
+  -- a power-up, a sample or a tick that is answered anything but 100 leaves the image as it was
+  pub power-up-refused : (cells l k : List ℕ) (n : ℕ) → Told (powerStatus cells) (powered cells) l k n → (n ≡ 100 → ⊥) → k ≡ l
+  pub sample-refused : (f : List ℤ) (l k : List ℕ) (n : ℕ) → Told (sampleStatus f l) (withSample (sampleOf f) (registersOf l)) l k n → (n ≡ 100 → ⊥) → k ≡ l
+  pub tick-refused : (l k : List ℕ) (n : ℕ) → Told (tickStatus l) (withTick (registersOf l)) l k n → (n ≡ 100 → ⊥) → k ≡ l
+  -- a run that is refused, with 20, 23 or 22, leaves image and cells, and makes no step
+  pub run-refused : (program : List ℕ) (budget : ℕ) (l m k n : List ℕ) (r : Ran) → Runs program budget l m r k n
+      → runs.lent program m && (stands l && leb budget 1000) ≡ false → (k ≡ l) × (n ≡ m) × (r .steps ≡ 0)
+  -- a datagram that is answered anything but 100 and 101 leaves the registers and both stores
+  pub datagram-refused : (bytes l p m b k q o c : List ℕ) (n : ℕ) → Answers bytes l p m b n k q o c → (n ≡ 100 → ⊥) → (n ≡ 101 → ⊥)
+      → (registersOf k ≡ registersOf l) × (q ≡ p) × (o ≡ m)
+  -- and where lent memory has another length or the image does not stand for registers, image, stores and reply buffer
+  pub datagram-shut : (bytes l p m b k q o c : List ℕ) (n : ℕ) → Answers bytes l p m b n k q o c → lent p m b && stands l ≡ false
+      → (k ≡ l) × (q ≡ p) × (o ≡ m) × (c ≡ b)
   -- two answers that meet the check's promise are one
   pub one-check : (program : List ℕ) (c d : Checked) → Checks program c → Checks program d → c ≡ d

@@ -1,4 +1,4 @@
-// What is relied on of the board by numbers: a refused event leaves the image and the lent memory, and the
+// What is relied on of the board that ships: a refused event leaves the image and the lent memory, and the
 // check has one answer.
 ghost use Rattle.refusing.specs.Laws.{Laws};
 

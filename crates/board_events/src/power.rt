@@ -24,31 +24,34 @@ fn fill(image: &mut [u32; REGISTERS], cells: &[u8], place: usize)
     reg_image::set_value(image, place, values::powered_value(cells, place));
 }
 
-// The eight values from a place on. Callers name the place: so the compiler knows each row.
-fn fill_eight(image: &mut [u32; REGISTERS], cells: &[u8], place: usize)
-    requires { ⌜ place + 8 ≤ 103 ⌝ }
-    ensures { λ _. ⌜ Fills (now (cells .entry)) place (place + 8) (now (image .entry)) (now (image .exit)) ⌝ }
+// The four values from a place on. Callers name the place, and four calls are few enough to be merged into
+// them: so the compiler knows each row.
+fn fill_four(image: &mut [u32; REGISTERS], cells: &[u8], place: usize)
+    requires { ⌜ place + 4 ≤ 103 ⌝ }
+    ensures { λ _. ⌜ Fills (now (cells .entry)) place (place + 4) (now (image .entry)) (now (image .exit)) ⌝ }
 {
     fill(image, cells, place);
     fill(image, cells, place + 1);
     fill(image, cells, place + 2);
     fill(image, cells, place + 3);
-    fill(image, cells, place + 4);
-    fill(image, cells, place + 5);
-    fill(image, cells, place + 6);
-    fill(image, cells, place + 7);
 }
 
 // The 47 parameters and the first user variable.
 fn fill_parameters(image: &mut [u32; REGISTERS], cells: &[u8])
     ensures { λ _. ⌜ Fills (now (cells .entry)) 0 48 (now (image .entry)) (now (image .exit)) ⌝ }
 {
-    fill_eight(image, cells, 0);
-    fill_eight(image, cells, 8);
-    fill_eight(image, cells, 16);
-    fill_eight(image, cells, 24);
-    fill_eight(image, cells, 32);
-    fill_eight(image, cells, 40);
+    fill_four(image, cells, 0);
+    fill_four(image, cells, 4);
+    fill_four(image, cells, 8);
+    fill_four(image, cells, 12);
+    fill_four(image, cells, 16);
+    fill_four(image, cells, 20);
+    fill_four(image, cells, 24);
+    fill_four(image, cells, 28);
+    fill_four(image, cells, 32);
+    fill_four(image, cells, 36);
+    fill_four(image, cells, 40);
+    fill_four(image, cells, 44);
 }
 
 // The other user variables. Their row is one, so that the compiler takes each cell as it is.

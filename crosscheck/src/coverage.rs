@@ -93,7 +93,9 @@ impl Coverage {
                 if !replied {
                     return add(&mut self.not_obeyed, status);
                 }
-                let command = Command::from_record(&bytes.as_slice()[1..8]);
+                let seven = bytes.as_slice()[1..8].try_into();
+                let seven = seven.expect("a datagram replied to has nine bytes");
+                let command = Command::from_record(seven);
                 add(&mut self.direct[command.number as usize], status);
                 self.rares.direct(command, status, before, after);
             }
@@ -125,6 +127,8 @@ impl Coverage {
 }
 
 impl Watch for Coverage {
+    const WATCHES: bool = true;
+
     fn before(&mut self, registers: &Registers, command: Option<Command>) {
         self.seen = Seen::new(registers, command);
     }

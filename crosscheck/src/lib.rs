@@ -1,6 +1,6 @@
 //! A second implementation of the board, and what compares and times the two.
 
-pub mod bench_rows;
+pub mod bench;
 pub mod board;
 pub mod compare;
 pub mod coverage;

@@ -11,6 +11,7 @@ mod events;
 mod registers;
 mod sheet;
 mod steps;
+mod store;
 mod wire;
 
 #[cfg(test)]
@@ -19,14 +20,12 @@ mod proved_table;
 pub use check::{check, Verdict};
 pub use events::new_cells;
 pub use registers::{Order, Registers, Wait};
-pub use sheet::{place_of, AXIS, CELLS, CELLS_LENGTH, ROWS, USER_VARIABLES};
+pub use sheet::{place_of, settable, Row, AXIS, CELLS, CELLS_LENGTH, ROWS, USER_VARIABLES};
 pub use steps::{Ran, Unwatched, Watch};
-pub use wire::{build_command, checksum, read_reply, Command, DATAGRAM_LENGTH};
+pub use wire::{build_command, checksum, read_reply, Command, DATAGRAM_LENGTH, RECORD_LENGTH};
 
 /// Records of a program store; as an address, the end behind the last one.
 pub const RECORDS: usize = 1024;
-/// Bytes of one record.
-pub const RECORD_LENGTH: usize = 7;
 /// Bytes of a program store.
 pub const PROGRAM_LENGTH: usize = RECORDS * RECORD_LENGTH;
 /// The address behind the last record.

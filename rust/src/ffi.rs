@@ -155,13 +155,18 @@ pub fn read_reply(bytes: &[u8]) -> Reply {
     // SAFETY: see the module's words; `numbers` outlives the call.
     let status =
         unsafe { c::dhikmarul_read_reply(bytes.as_ptr(), bytes.len(), numbers.as_mut_ptr()) };
-    // The first four are bytes of the reply, so no cast loses anything.
+    // One by one: a single load of all four would wait for the library's four stores. They are bytes of
+    // the reply, so no cast loses anything.
+    let byte = |at: usize| {
+        // SAFETY: a reference to a live number.
+        unsafe { std::ptr::read_volatile(&numbers[at]) as u8 }
+    };
     Reply {
         status: Status(status),
-        reply_address: numbers[0] as u8,
-        module_address: numbers[1] as u8,
-        command_status: Status(numbers[2] as u8),
-        command: numbers[3] as u8,
+        reply_address: byte(0),
+        module_address: byte(1),
+        command_status: Status(byte(2)),
+        command: byte(3),
         value: numbers[4],
     }
 }

@@ -1,134 +1,140 @@
 //! Times the library, over the C boundary, and the plain implementation in
-//! the same run, by turns; each time is the best of several rounds.
+//! the same run, by turns; each time is the best of all rounds.
 
-use std::hint::black_box;
+use std::env;
+use std::process::exit;
 use std::time::{Duration, Instant};
 
-use crosscheck::bench_rows::{rows, Row, Work};
-use crosscheck::board::Board;
-use crosscheck::library::LibraryBoard;
-use crosscheck::plain::check;
-use dhikmarul::Sample;
+use crosscheck::bench::{count_once, counts, rows, Bench, Counts, ONCE};
 
-const ROUNDS: usize = 15;
-/// A round has as many turns as make it at least this long.
-const ROUND: Duration = Duration::from_millis(3);
+const HELP: &str = "\
+usage: bench [--rounds N] [--count] [ROW]...
+
+Times the library, over the C boundary, and the plain implementation, in place,
+on the same events in the same run, by turns. A time is the best of all rounds,
+in nanoseconds of one unit. Before a row is timed both boards carry its events
+out and are compared after each: answers, registers, stores, reply buffer; after
+every timed pass they are compared again. A difference is told in one line.
+
+  --rounds N   so many rounds (40)
+  --count      the instructions of one unit too; needs valgrind
+  --list       the names of the rows
+  --help       this
+  ROW          only these rows
+
+Ends with 0, with 1 after a difference or an error, with 2 for a wrong call.";
+
+/// What was asked for.
+struct Asked {
+    rounds: usize,
+    count: bool,
+    once: bool,
+    names: Vec<String>,
+}
 
 fn main() {
-    println!(
-        "{:<28}{:>10}{:>14}{:>14}{:>12}",
-        "row", "unit", "library, ns", "plain, ns", "lib/plain"
-    );
-    for row in rows() {
-        let (library, plain) = time(&row);
+    let asked = arguments();
+    if let Err(words) = run(&asked) {
+        eprintln!("bench: {words}");
+        exit(1);
+    }
+}
+
+fn run(asked: &Asked) -> Result<(), String> {
+    let mut benches = prepare(&asked.names)?;
+    if asked.once {
+        return count_once(&mut benches);
+    }
+    let counted = if asked.count {
+        eprintln!("counting instructions, rows: {}", benches.len());
+        Some(counts(&benches)?)
+    } else {
+        None
+    };
+    let mut told = Told::new();
+    for round in 0..asked.rounds {
+        for bench in &mut benches {
+            told.tell(|| format!("round {} of {}, {}", round + 1, asked.rounds, bench.name));
+            bench.round()?;
+        }
+    }
+    show(&benches, counted.as_deref());
+    Ok(())
+}
+
+/// The rows asked for, or all of them.
+fn prepare(names: &[String]) -> Result<Vec<Bench>, String> {
+    let rows = rows().into_iter();
+    let wanted = rows.filter(|row| names.is_empty() || names.iter().any(|name| name == row.name));
+    wanted.map(Bench::new).collect()
+}
+
+fn show(benches: &[Bench], counted: Option<&[Counts]>) {
+    print!("{:<16}{:<10}{:>12}{:>12}{:>8}", "row", "unit", "library, ns", "plain, ns", "ratio");
+    if counted.is_some() {
+        print!("{:>16}{:>14}{:>8}", "library, instr", "plain, instr", "ratio");
+    }
+    println!();
+    for (at, bench) in benches.iter().enumerate() {
+        let (library, plain) = (bench.best.library, bench.best.plain);
         let ratio = library / plain;
-        println!("{:<28}{:>10}{library:>14.1}{plain:>14.1}{ratio:>12.2}", row.name, row.unit);
+        print!("{:<16}{:<10}{library:>12.2}{plain:>12.2}{ratio:>8.2}", bench.name, bench.unit);
+        if let Some(counted) = counted {
+            let Counts { library, plain } = counted[at];
+            print!("{library:>16.1}{plain:>14.1}{:>8.2}", library / plain);
+        }
+        println!();
     }
+    println!("answers, registers, stores and replies of {} rows agree", benches.len());
 }
 
-/// The nanoseconds of one unit: library, plain.
-fn time(row: &Row) -> (f64, f64) {
-    let (mut library, mut plain) = row.boards();
-    let turns = turns(row, &mut library, &mut plain);
-    let mut best = (Duration::MAX, Duration::MAX);
-    for _ in 0..ROUNDS {
-        best.0 = best.0.min(timed(|| library_turns(&mut library, &row.work, turns)));
-        best.1 = best.1.min(timed(|| plain_turns(&mut plain, &row.work, turns)));
+/// Says how far a long run is.
+struct Told {
+    last: Instant,
+}
+
+impl Told {
+    const EVERY: Duration = Duration::from_secs(2);
+
+    fn new() -> Told {
+        Told { last: Instant::now() }
     }
-    // Both did the same, so a difference would mean that one timed less work.
-    assert_eq!(library.dumped(), plain.registers.image(), "{}", row.name);
-    assert_eq!(library.cells, plain.cells, "{}", row.name);
-    assert_eq!(library.reply, plain.reply, "{}", row.name);
-    let (verdict, plain_verdict) = (dhikmarul::check(&library.program), check(&plain.program));
-    assert_eq!(
-        (verdict.status.0, verdict.address, verdict.depth),
-        (plain_verdict.status, plain_verdict.address, plain_verdict.depth),
-        "{}",
-        row.name
-    );
-    let units = (turns * row.units()) as f64;
-    (best.0.as_nanos() as f64 / units, best.1.as_nanos() as f64 / units)
-}
 
-/// How many turns a round has; both boards take the turns tried here.
-fn turns(row: &Row, library: &mut LibraryBoard, plain: &mut Board) -> usize {
-    let mut turns = 1;
-    loop {
-        let spent = timed(|| plain_turns(plain, &row.work, turns));
-        library_turns(library, &row.work, turns);
-        if spent >= ROUND {
-            return turns;
-        }
-        turns *= 2;
-    }
-}
-
-fn timed(work: impl FnOnce()) -> Duration {
-    let begun = Instant::now();
-    work();
-    begun.elapsed()
-}
-
-fn library_turns(board: &mut LibraryBoard, work: &Work, turns: usize) {
-    let LibraryBoard { registers, program, cells, reply } = board;
-    match work {
-        Work::Run => {
-            for _ in 0..turns {
-                let ran = registers.run(black_box(program), cells, 1000);
-                assert_eq!(ran.steps, 1000);
-            }
-        }
-        Work::Datagrams(list) => {
-            for bytes in (0..turns).flat_map(|_| list) {
-                black_box(registers.datagram(program, cells, reply, black_box(bytes)));
-            }
-        }
-        Work::Sample(fields) => {
-            for _ in 0..turns {
-                black_box(registers.sample(&Sample::from_numbers(black_box(fields))));
-            }
-        }
-        Work::Tick => {
-            for _ in 0..turns {
-                black_box(registers.tick());
-            }
-        }
-        Work::Check => {
-            for _ in 0..turns {
-                black_box(dhikmarul::check(black_box(program)));
-            }
+    fn tell(&mut self, words: impl FnOnce() -> String) {
+        if self.last.elapsed() >= Told::EVERY {
+            self.last = Instant::now();
+            eprintln!("{}", words());
         }
     }
 }
 
-fn plain_turns(board: &mut Board, work: &Work, turns: usize) {
-    let Board { registers, program, cells, reply } = board;
-    match work {
-        Work::Run => {
-            for _ in 0..turns {
-                let ran = registers.run(black_box(program), cells, 1000);
-                assert_eq!(ran.steps, 1000);
-            }
-        }
-        Work::Datagrams(list) => {
-            for bytes in (0..turns).flat_map(|_| list) {
-                black_box(registers.datagram(program, cells, reply, black_box(bytes)));
-            }
-        }
-        Work::Sample(fields) => {
-            for _ in 0..turns {
-                black_box(registers.sample(black_box(fields)));
-            }
-        }
-        Work::Tick => {
-            for _ in 0..turns {
-                black_box(registers.tick());
-            }
-        }
-        Work::Check => {
-            for _ in 0..turns {
-                black_box(check(black_box(program)));
-            }
+fn arguments() -> Asked {
+    let mut asked = Asked { rounds: 40, count: false, once: false, names: Vec::new() };
+    let known: Vec<&str> = rows().iter().map(|row| row.name).collect();
+    let mut words = env::args().skip(1);
+    while let Some(word) = words.next() {
+        match word.as_str() {
+            "--help" | "-h" => end(HELP, 0),
+            "--list" => end(&known.join("\n"), 0),
+            "--count" => asked.count = true,
+            ONCE => asked.once = true,
+            "--rounds" => match words.next().map(|number| number.parse()) {
+                Some(Ok(rounds)) if rounds > 0 => asked.rounds = rounds,
+                _ => end("bench: --rounds wants a number above 0", 2),
+            },
+            name if known.contains(&name) => asked.names.push(word),
+            _ => end(&format!("bench: no row and no option: {word} (see --help)"), 2),
         }
     }
+    asked
+}
+
+/// Ends with these words: an answer for 0, else an error.
+fn end(words: &str, code: i32) -> ! {
+    if code == 0 {
+        println!("{words}");
+    } else {
+        eprintln!("{words}");
+    }
+    exit(code)
 }

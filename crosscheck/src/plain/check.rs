@@ -1,11 +1,15 @@
 //! The program check: follows every way the records lead from address 0.
+//!
+//! An address is looked at for all depths that come to it together: its
+//! record is judged once for them, and only CSUB and RSUB ask which they are.
 
 use super::control::record_address;
 use super::direct::{bank_2, motor_zero, user_variable, KEY, UNLOCK};
-use super::sheet::{self, ROWS};
+use super::sheet;
 use super::steps::judge_wait;
-use super::wire::Command;
-use super::{number, status, END_ADDRESS, GREATEST_DEPTH, PROGRAM_LENGTH, RECORDS, RECORD_LENGTH};
+use super::store::{self, Program};
+use super::wire::Seven;
+use super::{number, status, GREATEST_DEPTH, RECORDS};
 
 /// What the check answers; the point is (0, 0) unless a bad one is named.
 #[derive(Clone, Copy, Debug, PartialEq, Eq)]
@@ -15,156 +19,226 @@ pub struct Verdict {
     pub depth: u8,
 }
 
-#[derive(Clone, Copy)]
-struct Point {
-    address: u16,
-    depth: u8,
-}
+/// A set of depths, a bit for each.
+type Depths = u16;
 
+const ZERO: Depths = 1;
+const DEEPEST: Depths = 1 << GREATEST_DEPTH;
 const ADDRESSES: usize = RECORDS + 1;
+const WORD: usize = u64::BITS as usize;
 
-/// The points still to be looked at, and those already found.
-struct Worklist {
-    /// For each address one bit per depth.
-    found: [u16; ADDRESSES],
-    /// Each point is put here at most once, so the search ends.
-    waiting: Vec<Point>,
+/// The depths at which one address was found, and those of them that still
+/// wait to be followed.
+#[derive(Clone, Copy)]
+struct Found {
+    all: Depths,
+    waiting: Depths,
 }
 
-impl Worklist {
-    fn new() -> Worklist {
-        Worklist { found: [0; ADDRESSES], waiting: Vec::new() }
-    }
+/// Where a record leads, at every depth alike.
+enum Way {
+    Next,
+    Jump(usize),
+    Branch(usize),
+    Call(usize),
+    Return,
+    End,
+}
 
-    fn put(&mut self, address: u16, depth: u8) {
-        let bit = 1 << depth;
-        let found = &mut self.found[address as usize];
-        if *found & bit == 0 {
-            *found |= bit;
-            self.waiting.push(Point { address, depth });
-        }
-    }
+/// What the search has found so far.
+struct Search {
+    found: [Found; ADDRESSES],
+    /// A bit for each address where some depth waits. One where none waits any
+    /// more may still have its bit.
+    waiting: [u64; ADDRESSES.div_ceil(WORD)],
+    /// The lowest bad point, by address, then depth.
+    worst: Option<Verdict>,
 }
 
 /// Checks the program begun at address 0.
 pub fn check(program: &[u8]) -> Verdict {
-    if program.len() != PROGRAM_LENGTH {
+    let Some(program) = store::program(program) else {
         return Verdict { status: status::LENGTH, address: 0, depth: 0 };
+    };
+    let mut search = Search {
+        found: [Found { all: 0, waiting: 0 }; ADDRESSES],
+        waiting: [0; ADDRESSES.div_ceil(WORD)],
+        worst: None,
+    };
+    search.put(0, ZERO);
+    // Each depth waits at each address at most once, so the search ends.
+    while let Some(address) = search.lowest_waiting() {
+        let depths = search.take(address, 0);
+        search.follow(program, address, depths);
     }
-    let mut worst: Option<Verdict> = None;
-    let mut worklist = Worklist::new();
-    worklist.put(0, 0);
-    while let Some(point) = worklist.waiting.pop() {
-        if let Err(status) = follow(program, point, &mut worklist) {
-            let Point { address, depth } = point;
-            if worst.is_none_or(|named| (address, depth) < (named.address, named.depth)) {
-                worst = Some(Verdict { status, address, depth });
-            }
-        }
-    }
-    worst.unwrap_or(Verdict { status: status::DONE, address: 0, depth: 0 })
+    search.worst.unwrap_or(Verdict { status: status::DONE, address: 0, depth: 0 })
 }
 
-/// Puts the points that a point leads to, or answers a bad point's status.
-fn follow(program: &[u8], point: Point, worklist: &mut Worklist) -> Result<(), u8> {
-    let Point { address, depth } = point;
-    if address == END_ADDRESS {
-        return Err(status::VALUE);
+impl Search {
+    /// Lets the depths that are new at an address wait there.
+    #[inline(always)]
+    fn put(&mut self, address: usize, depths: Depths) {
+        let found = &mut self.found[address];
+        let new = depths & !found.all;
+        if new != 0 {
+            found.all |= new;
+            found.waiting |= new;
+            self.waiting[address / WORD] |= 1 << (address % WORD);
+        }
     }
-    let at = address as usize * RECORD_LENGTH;
-    let command = Command::from_record(&program[at..at + RECORD_LENGTH]);
-    match command.number {
-        number::JA => worklist.put(record_address(command.value)?, depth),
+
+    /// The depths to follow at an address: those of these that are new there,
+    /// and those that wait.
+    #[inline(always)]
+    fn take(&mut self, address: usize, depths: Depths) -> Depths {
+        let found = &mut self.found[address];
+        let taken = depths & !found.all | found.waiting;
+        found.all |= depths;
+        found.waiting = 0;
+        taken
+    }
+
+    /// Takes the lowest address from those where depths wait. The lowest
+    /// first, so that depths which come to an address by several ways meet.
+    #[inline(always)]
+    fn lowest_waiting(&mut self) -> Option<usize> {
+        let (at, word) = self.waiting.iter_mut().enumerate().find(|(_, word)| **word != 0)?;
+        let bit = word.trailing_zeros() as usize;
+        *word &= *word - 1;
+        Some(at * WORD + bit)
+    }
+
+    /// Follows the records from an address on, until they lead elsewhere, are
+    /// bad, or come to where nothing is new.
+    #[inline(always)]
+    fn follow(&mut self, program: &Program, mut address: usize, mut depths: Depths) {
+        while depths != 0 {
+            match program.get(address).map_or(Err(status::VALUE), |record| way(Seven(record))) {
+                Ok(Way::Next) => {}
+                Ok(Way::Jump(target)) => return self.put(target, depths),
+                Ok(Way::Branch(target)) => self.put(target, depths),
+                Ok(Way::Call(target)) => {
+                    self.refuse(address, depths & DEEPEST, status::NOT_NOW);
+                    depths &= !DEEPEST;
+                    self.put(target, depths << 1);
+                }
+                Ok(Way::Return) => return self.refuse(address, depths & ZERO, status::NOT_NOW),
+                Ok(Way::End) => return,
+                Err(status) => return self.refuse(address, depths, status),
+            }
+            address += 1;
+            depths = self.take(address, depths);
+        }
+    }
+
+    /// Keeps the lowest of the points at an address if it is the lowest so
+    /// far; no depths are no points.
+    #[inline(always)]
+    fn refuse(&mut self, address: usize, depths: Depths, status: u8) {
+        if depths == 0 {
+            return;
+        }
+        let (address, depth) = (address as u16, depths.trailing_zeros() as u8);
+        if self.worst.is_none_or(|named| (address, depth) < (named.address, named.depth)) {
+            self.worst = Some(Verdict { status, address, depth });
+        }
+    }
+}
+
+/// Where a record leads, or the status of a bad one.
+#[inline(always)]
+fn way(record: Seven) -> Result<Way, u8> {
+    match record.number() {
+        number::JA => record_address(record.value()).map(Way::Jump),
         number::JC => {
-            worklist.put(judge_jump(command)?, depth);
-            worklist.put(address + 1, depth);
+            type_up_to(record, 11)?;
+            record_address(record.value()).map(Way::Branch)
         }
-        number::CSUB => {
-            let target = record_address(command.value)?;
-            if depth == GREATEST_DEPTH {
-                return Err(status::NOT_NOW);
-            }
-            worklist.put(target, depth + 1);
-            worklist.put(address + 1, depth);
-        }
-        number::RSUB if depth == 0 => return Err(status::NOT_NOW),
-        number::RSUB | number::STOP => {}
-        _ => {
-            judge(command)?;
-            worklist.put(address + 1, depth);
-        }
+        number::CSUB => record_address(record.value()).map(Way::Call),
+        number::RSUB => Ok(Way::Return),
+        number::STOP => Ok(Way::End),
+        _ => judge(record).map(|()| Way::Next),
     }
-    Ok(())
-}
-
-fn judge_jump(command: Command) -> Result<u16, u8> {
-    if command.kind > 11 {
-        return Err(status::TYPE);
-    }
-    record_address(command.value)
 }
 
 /// Judges a record that leads to the next one by what it says itself: all
 /// that does not hang on accumulator, X, parameters or lock.
-fn judge(command: Command) -> Result<(), u8> {
-    match command.number {
-        number::ROR | number::ROL | number::MST => motor_zero(command),
-        number::MVP => motor_zero(command).and(type_up_to(command, 1)),
+#[inline(always)]
+fn judge(record: Seven) -> Result<(), u8> {
+    match record.number() {
+        number::ROR | number::ROL | number::MST => motor_zero(record),
+        number::MVP => motor_zero(record).and_then(|()| type_up_to(record, 1)),
         number::SAP => {
-            let row = judge_settable(command)?;
-            wanted(ROWS[row].allows(command.value), status::VALUE)
+            let row = judge_settable(record)?;
+            wanted(row.allows(record.value()), status::VALUE)
         }
-        number::AAP => judge_settable(command).map(|_| ()),
-        number::GAP => {
-            motor_zero(command)?;
-            wanted(sheet::place_of(command.kind).is_some(), status::TYPE)
-        }
+        number::AAP => judge_settable(record).map(|_| ()),
+        number::GAP => judge_axis(record, sheet::row_of(record.kind()).is_some()),
         number::STAP | number::RSAP => {
-            motor_zero(command)?;
-            wanted(sheet::stored_cell(command.kind).is_some(), status::TYPE)
+            judge_axis(record, sheet::stored_cell(record.kind()).is_some())
         }
-        number::SGP => judge_global(command, &[66, 73, 76, 77])
-            .and(wanted(global_allows(command), status::VALUE)),
-        number::AGP => judge_global(command, &[66, 73, 76, 77]),
-        number::GGP => judge_global(command, &[66, 73, 76, 77, 128, 130]),
-        number::STGP | number::RSGP => bank_2(command).and(user_variable(command).map(|_| ())),
+        number::SGP => {
+            judge_settable_global(record)?;
+            wanted(global_allows(record), status::VALUE)
+        }
+        number::AGP => judge_settable_global(record),
+        number::GGP => judge_global(record, matches!(record.kind(), 66 | 73 | 76 | 77 | 128 | 130)),
+        number::STGP | number::RSGP => {
+            bank_2(record)?;
+            user_variable(record).map(|_| ())
+        }
         number::SIO => {
-            bank_2(command)?;
-            type_up_to(command, 3)?;
-            wanted((0..=1).contains(&command.value), status::VALUE)
+            bank_2(record)?;
+            type_up_to(record, 3)?;
+            wanted((0..=1).contains(&record.value()), status::VALUE)
         }
-        number::GIO => judge_port(command),
+        number::GIO => judge_port(record),
         number::CALC => {
-            type_up_to(command, 9)?;
-            let divides = command.kind == 3 || command.kind == 4;
-            wanted(!(divides && command.value == 0), status::VALUE)
+            type_up_to(record, 9)?;
+            let divides = record.kind() == 3 || record.kind() == 4;
+            wanted(!(divides && record.value() == 0), status::VALUE)
         }
-        number::CALCX => type_up_to(command, 10),
+        number::CALCX => type_up_to(record, 10),
         number::COMP => Ok(()),
-        number::CLE => type_up_to(command, 4),
-        number::WAIT => judge_wait(command).map(|_| ()),
+        number::CLE => type_up_to(record, 4),
+        number::WAIT => judge_wait(record).map(|_| ()),
         _ => Err(status::COMMAND),
     }
 }
 
-fn judge_settable(command: Command) -> Result<usize, u8> {
-    motor_zero(command)?;
-    sheet::settable(command.kind).ok_or(status::TYPE)
+/// An axis command's motor and type; `on_sheet` says whether it has the type.
+#[inline(always)]
+fn judge_axis(record: Seven, on_sheet: bool) -> Result<(), u8> {
+    motor_zero(record)?;
+    wanted(on_sheet, status::TYPE)
 }
 
-/// A global's bank and type; `bank_0` are the types of bank 0 there are.
-fn judge_global(command: Command, bank_0: &[u8]) -> Result<(), u8> {
-    match command.motor {
-        0 => wanted(bank_0.contains(&command.kind), status::TYPE),
-        2 => user_variable(command).map(|_| ()),
+#[inline(always)]
+fn judge_settable(record: Seven) -> Result<&'static sheet::Row, u8> {
+    motor_zero(record)?;
+    sheet::settable(record.kind()).map(|(_, row)| row).ok_or(status::TYPE)
+}
+
+#[inline(always)]
+fn judge_settable_global(record: Seven) -> Result<(), u8> {
+    judge_global(record, matches!(record.kind(), 66 | 73 | 76 | 77))
+}
+
+/// A global's bank and type; `in_bank_0` says whether bank 0 has the type.
+#[inline(always)]
+fn judge_global(record: Seven, in_bank_0: bool) -> Result<(), u8> {
+    match record.motor() {
+        0 => wanted(in_bank_0, status::TYPE),
+        2 => user_variable(record).map(|_| ()),
         _ => Err(status::VALUE),
     }
 }
 
 /// Whether SGP may set the value, its bank and type being right.
-fn global_allows(command: Command) -> bool {
-    let value = command.value;
-    match (command.motor, command.kind) {
+#[inline(always)]
+fn global_allows(record: Seven) -> bool {
+    let value = record.value();
+    match (record.motor(), record.kind()) {
         (0, 66) => (1..=255).contains(&value),
         (0, 73) => value == KEY || value == UNLOCK,
         (0, 76) => (0..=255).contains(&value),
@@ -173,19 +247,22 @@ fn global_allows(command: Command) -> bool {
     }
 }
 
-fn judge_port(command: Command) -> Result<(), u8> {
-    match command.motor {
-        0 => type_up_to(command, 1),
-        1 => type_up_to(command, 2),
-        2 => type_up_to(command, 3),
+#[inline(always)]
+fn judge_port(record: Seven) -> Result<(), u8> {
+    match record.motor() {
+        0 => type_up_to(record, 1),
+        1 => type_up_to(record, 2),
+        2 => type_up_to(record, 3),
         _ => Err(status::VALUE),
     }
 }
 
-fn type_up_to(command: Command, last: u8) -> Result<(), u8> {
-    wanted(command.kind <= last, status::TYPE)
+#[inline(always)]
+fn type_up_to(record: Seven, last: u8) -> Result<(), u8> {
+    wanted(record.kind() <= last, status::TYPE)
 }
 
+#[inline(always)]
 fn wanted(holds: bool, refusal: u8) -> Result<(), u8> {
     if holds {
         Ok(())

@@ -2,60 +2,76 @@
 //! commands from 128 up.
 
 use super::direct::{Outcome, KEY};
-use super::events::new_cells;
+use super::events::put_default_cells;
 use super::registers::{Order, Registers};
 use super::sheet::{self, Access, ROWS};
 use super::steps::Watch;
-use super::wire::Command;
-use super::{number, status, END_ADDRESS, RECORDS, RECORD_LENGTH};
+use super::store::{Cells, Program};
+use super::wire::Seven;
+use super::{number, status, RECORDS};
 
 impl Registers {
     /// Obeys a datagram's command: its status and the value replied, or the
     /// status that refuses it.
+    #[inline(always)]
     pub fn obey(
         &mut self,
-        command: Command,
-        program: &mut [u8],
-        cells: &mut [u8],
+        command: Seven,
+        program: &mut Program,
+        cells: &mut Cells,
         watch: &mut impl Watch,
     ) -> Result<(u8, i32), u8> {
-        let value = match command.number {
+        let value = match command.number() {
             0..=127 if self.download => {
                 self.store_record(command, program)?;
-                return Ok((status::STORED, command.value));
+                return Ok((status::STORED, command.value()));
             }
             number::JC..=number::RSUB | number::WAIT | number::STOP => {
                 return Err(status::NOT_NOW);
             }
-            0..=127 => self.carry_out(command, cells)?,
+            0..=127 => self.obey_directly(command, cells)?,
             _ => self.control(command, program, cells, watch)?,
         };
         Ok((status::DONE, value))
     }
 
+    /// Direct mode: the value read, or the new accumulator for CALC and CALCX,
+    /// else the value sent. What is read leaves the accumulator.
+    #[inline(always)]
+    fn obey_directly(&mut self, command: Seven, cells: &mut Cells) -> Outcome {
+        let mut hand = self.hand();
+        self.carry_out(command, &mut hand, cells)?;
+        match command.number() {
+            number::GAP | number::GGP | number::GIO => Ok(hand.accumulator),
+            number::CALC | number::CALCX => {
+                self.accumulator = hand.accumulator;
+                Ok(hand.accumulator)
+            }
+            _ => Ok(command.value()),
+        }
+    }
+
     /// Download mode: puts the command at the write address.
-    fn store_record(&mut self, command: Command, program: &mut [u8]) -> Result<(), u8> {
-        if command.number == 0 {
+    fn store_record(&mut self, command: Seven, program: &mut Program) -> Result<(), u8> {
+        if command.number() == 0 {
             return Err(status::COMMAND);
         }
         self.unlocked()?;
-        if self.write_address == END_ADDRESS {
-            return Err(status::VALUE);
-        }
-        let at = self.write_address as usize * RECORD_LENGTH;
-        program[at..at + RECORD_LENGTH].copy_from_slice(&command.to_record());
+        let record = program.get_mut(usize::from(self.write_address)).ok_or(status::VALUE)?;
+        *record = *command.0;
         self.write_address += 1;
         Ok(())
     }
 
+    #[inline(never)]
     fn control(
         &mut self,
-        command: Command,
-        program: &[u8],
-        cells: &mut [u8],
+        command: Seven,
+        program: &Program,
+        cells: &mut Cells,
         watch: &mut impl Watch,
     ) -> Outcome {
-        match command.number {
+        match command.number() {
             number::STOP_PROGRAM => self.stop_program(),
             number::RUN_PROGRAM => self.run_program(command)?,
             number::ONE_STEP => self.one_step(program, cells, watch)?,
@@ -68,7 +84,7 @@ impl Registers {
             number::RESTART => self.restart(command, cells)?,
             _ => return Err(status::COMMAND),
         }
-        Ok(command.value)
+        Ok(command.value())
     }
 
     fn stop_program(&mut self) {
@@ -76,14 +92,14 @@ impl Registers {
         self.drop_wait();
     }
 
-    fn run_program(&mut self, command: Command) -> Result<(), u8> {
+    fn run_program(&mut self, command: Seven) -> Result<(), u8> {
         if self.download {
             return Err(status::NOT_NOW);
         }
-        match command.kind {
+        match command.kind() {
             0 => {}
             1 => {
-                self.address = record_address(command.value)?;
+                self.address = record_address(command.value())? as u16;
                 self.empty_stack();
                 self.drop_wait();
             }
@@ -96,14 +112,14 @@ impl Registers {
     /// The step's own status is not shown.
     fn one_step(
         &mut self,
-        program: &[u8],
-        cells: &mut [u8],
+        program: &Program,
+        cells: &mut Cells,
         watch: &mut impl Watch,
     ) -> Result<(), u8> {
         if self.running || self.download {
             return Err(status::NOT_NOW);
         }
-        self.step(program, cells, watch);
+        self.steps(program, cells, 1, watch);
         Ok(())
     }
 
@@ -115,20 +131,20 @@ impl Registers {
         self.download = false;
     }
 
-    fn start_download(&mut self, command: Command) -> Result<(), u8> {
+    fn start_download(&mut self, command: Seven) -> Result<(), u8> {
         if self.running {
             return Err(status::NOT_NOW);
         }
-        let address = record_address(command.value)?;
+        let address = record_address(command.value())?;
         self.unlocked()?;
         self.download = true;
-        self.write_address = address;
+        self.write_address = address as u16;
         self.drop_wait();
         Ok(())
     }
 
     /// 137: read-only parameters and all else that is not named stay.
-    fn restore_defaults(&mut self, command: Command, cells: &mut [u8]) -> Result<(), u8> {
+    fn restore_defaults(&mut self, command: Seven, cells: &mut Cells) -> Result<(), u8> {
         if self.running {
             return Err(status::NOT_NOW);
         }
@@ -144,44 +160,44 @@ impl Registers {
         self.reply_address = sheet::DEFAULT_76;
         self.autostart = sheet::DEFAULT_77;
         self.user.fill(0);
-        new_cells(cells);
+        put_default_cells(cells);
         self.give_order(Order::Stopped, 0);
         Ok(())
     }
 
-    fn restart(&mut self, command: Command, cells: &[u8]) -> Result<(), u8> {
+    fn restart(&mut self, command: Seven, cells: &Cells) -> Result<(), u8> {
         key(command)?;
-        self.power_up(cells);
+        self.take_cells(cells);
         Ok(())
     }
 }
 
 /// 134: the record's value, or its other three bytes as one number.
-fn read_program(command: Command, program: &[u8]) -> Outcome {
-    if command.kind > 1 {
+fn read_program(command: Seven, program: &Program) -> Outcome {
+    if command.kind() > 1 {
         return Err(status::TYPE);
     }
-    let at = record_address(command.value)? as usize * RECORD_LENGTH;
-    let record = Command::from_record(&program[at..at + RECORD_LENGTH]);
-    if command.kind == 0 {
-        return Ok(record.value);
+    let record = Seven(&program[record_address(command.value())?]);
+    if command.kind() == 0 {
+        return Ok(record.value());
     }
-    let [number, kind, motor] = [record.number, record.kind, record.motor].map(i32::from);
+    let [number, kind, motor] = [record.number(), record.kind(), record.motor()].map(i32::from);
     Ok(number * 65_536 + kind * 256 + motor)
 }
 
 /// The value as the address of a record, 0 to 1,023.
-pub fn record_address(value: i32) -> Result<u16, u8> {
+#[inline(always)]
+pub fn record_address(value: i32) -> Result<usize, u8> {
     if (0..RECORDS as i32).contains(&value) {
-        Ok(value as u16)
+        Ok(value as usize)
     } else {
         Err(status::VALUE)
     }
 }
 
 /// 137 and 255 want a key, so that no stray datagram sets them off.
-fn key(command: Command) -> Result<(), u8> {
-    if command.value == KEY {
+fn key(command: Seven) -> Result<(), u8> {
+    if command.value() == KEY {
         Ok(())
     } else {
         Err(status::VALUE)

@@ -1,133 +1,179 @@
-//! The commands that mean the same in direct mode and in a program: motion,
-//! parameters, inputs and outputs, arithmetic.
+//! The commands by number, and those that mean the same in direct mode and in
+//! a program: motion, parameters, inputs and outputs, arithmetic.
 //!
 //! Each is judged in the paper's order - motor or bank, type, value, lock -
 //! before it changes anything.
 
-use super::events::axis_cell;
+use super::events::taken;
 use super::registers::{Order, Registers, P43, P50, P52};
-use super::sheet::{self, ROWS, USER_VARIABLES};
-use super::wire::Command;
+use super::sheet::{self, USER_VARIABLES};
+use super::steps::jump;
+use super::store::{read_cell, write_cell, Cells};
+use super::wire::Seven;
 use super::{number, status};
 
-/// The value a command answers, or the status that refuses it.
+/// The value a command reads, or the status that refuses it.
 pub type Outcome = Result<i32, u8>;
+/// Nothing, or the status that refuses the command.
+pub type Done = Result<(), u8>;
 
 /// The number that locks, that resets and that restores defaults.
 pub const KEY: i32 = 1234;
 /// The number that unlocks.
 pub const UNLOCK: i32 = 4321;
 
+/// The registers that the next step wants at once. A run carries them beside
+/// the others and puts them back at its end; direct mode, which leaves two of
+/// them and most times the accumulator, lends a copy of them.
+pub struct Hand {
+    pub accumulator: i32,
+    pub address: usize,
+    pub depth: usize,
+}
+
+/// Where a step that was not refused leads.
+pub enum Next {
+    /// To the record behind it.
+    On,
+    /// To the address that it has put into the hand.
+    There,
+    /// Nowhere, and the run ends: a STOP, or a WAIT that holds.
+    Ends,
+}
+
+/// Where a command leads, or the status that refuses it.
+pub type Carried = Result<Next, u8>;
+
 impl Registers {
-    /// Carries out a command, or refuses it with 2 where it is none of these.
-    pub fn carry_out(&mut self, command: Command, cells: &mut [u8]) -> Outcome {
-        match command.number {
-            number::ROR => self.rotate(command, command.value),
-            number::ROL => self.rotate(command, command.value.wrapping_neg()),
-            number::MST => self.motor_stop(command),
-            number::MVP => self.move_to_position(command),
-            number::SAP => self.set_axis(command, command.value),
-            number::GAP => self.get_axis(command),
-            number::STAP => self.store_axis(command, cells),
-            number::RSAP => self.restore_axis(command, cells),
-            number::SGP => self.set_global(command, command.value, cells),
-            number::GGP => self.get_global(command),
-            number::STGP => self.store_user(command, cells),
-            number::RSGP => self.restore_user(command, cells),
-            number::SIO => self.set_output(command),
-            number::GIO => self.get_input_or_output(command),
-            number::CALC => self.calc(command),
-            number::COMP => Ok(self.compare(command)),
-            number::CALCX => self.calcx(command),
-            number::AAP => self.set_axis(command, self.accumulator),
-            number::AGP => self.set_global(command, self.accumulator, cells),
-            number::CLE => self.clear_flags(command),
-            _ => Err(status::COMMAND),
+    /// Carries out a command. What it reads or calculates goes into the hand's
+    /// accumulator.
+    #[inline(always)]
+    pub fn carry_out(&mut self, command: Seven, hand: &mut Hand, cells: &mut Cells) -> Carried {
+        let accumulator = hand.accumulator;
+        match command.number() {
+            number::JC => return self.jump_conditionally(command, hand),
+            number::JA => return jump(command, hand),
+            number::CSUB => return self.call(command, hand),
+            number::RSUB => return self.return_from_call(hand),
+            number::WAIT => return self.wait(command, accumulator),
+            number::STOP => return self.stop(hand),
+            number::ROR => self.rotate(command, command.value())?,
+            number::ROL => self.rotate(command, command.value().wrapping_neg())?,
+            number::MST => self.motor_stop(command)?,
+            number::MVP => self.move_to_position(command)?,
+            number::SAP => self.set_axis(command, command.value())?,
+            number::GAP => hand.accumulator = self.get_axis(command)?,
+            number::STAP => self.store_axis(command, cells)?,
+            number::RSAP => self.restore_axis(command, cells)?,
+            number::SGP => self.set_global(command, command.value(), cells)?,
+            number::GGP => hand.accumulator = self.get_global(command, hand.address)?,
+            number::STGP => self.store_user(command, cells)?,
+            number::RSGP => self.restore_user(command, cells)?,
+            number::SIO => self.set_output(command)?,
+            number::GIO => hand.accumulator = self.get_input_or_output(command)?,
+            number::CALC => hand.accumulator = calc(command, accumulator)?,
+            number::COMP => self.comparison = accumulator.cmp(&command.value()) as i8,
+            number::CALCX => hand.accumulator = self.calcx(command, accumulator)?,
+            number::AAP => self.set_axis(command, accumulator)?,
+            number::AGP => self.set_global(command, accumulator, cells)?,
+            number::CLE => self.clear_flags(command)?,
+            _ => return Err(status::COMMAND),
         }
+        Ok(Next::On)
     }
 
     /// ROR and ROL. The range is that of the value sent, so that negating
     /// -2147483648 cannot slip through.
-    fn rotate(&mut self, command: Command, velocity: i32) -> Outcome {
+    #[inline(always)]
+    fn rotate(&mut self, command: Seven, velocity: i32) -> Done {
         motor_zero(command)?;
         let limit = self.axis[P43];
-        if command.value < -limit || command.value > limit {
+        if command.value() < -limit || command.value() > limit {
             return Err(status::VALUE);
         }
         self.give_order(Order::Velocity, velocity);
-        Ok(command.value)
+        Ok(())
     }
 
-    fn motor_stop(&mut self, command: Command) -> Outcome {
+    #[inline(always)]
+    fn motor_stop(&mut self, command: Seven) -> Done {
         motor_zero(command)?;
         self.give_order(Order::Stopped, 0);
-        Ok(command.value)
+        Ok(())
     }
 
-    fn move_to_position(&mut self, command: Command) -> Outcome {
+    #[inline(always)]
+    fn move_to_position(&mut self, command: Seven) -> Done {
         motor_zero(command)?;
-        let target = match command.kind {
-            0 => command.value,
-            1 => self.axis[P52].checked_add(command.value).ok_or(status::VALUE)?,
+        let target = match command.kind() {
+            0 => command.value(),
+            1 => self.axis[P52].checked_add(command.value()).ok_or(status::VALUE)?,
             _ => return Err(status::TYPE),
         };
         self.order_position(target);
-        Ok(command.value)
+        Ok(())
     }
 
+    #[inline(always)]
     fn order_position(&mut self, target: i32) {
         self.axis[P50] = target;
         self.give_order(Order::Position, 0);
     }
 
     /// SAP and AAP.
-    fn set_axis(&mut self, command: Command, value: i32) -> Outcome {
+    #[inline(always)]
+    fn set_axis(&mut self, command: Seven, value: i32) -> Done {
         motor_zero(command)?;
-        let row = sheet::settable(command.kind).ok_or(status::TYPE)?;
-        if !ROWS[row].allows(value) {
+        let (place, row) = sheet::settable(command.kind()).ok_or(status::TYPE)?;
+        if !row.allows(value) {
             return Err(status::VALUE);
         }
-        if row == P50 {
-            self.order_position(value);
-        } else {
-            self.axis[row] = value;
+        self.axis[place] = value;
+        // Setting 50 acts as MVP ABS.
+        if place == P50 {
+            self.give_order(Order::Position, 0);
         }
-        Ok(command.value)
+        Ok(())
     }
 
-    fn get_axis(&self, command: Command) -> Outcome {
+    #[inline(always)]
+    fn get_axis(&self, command: Seven) -> Outcome {
         motor_zero(command)?;
-        let row = sheet::place_of(command.kind).ok_or(status::TYPE)?;
-        Ok(self.axis[row])
+        let (place, _) = sheet::row_of(command.kind()).ok_or(status::TYPE)?;
+        Ok(self.axis[place])
     }
 
-    fn store_axis(&mut self, command: Command, cells: &mut [u8]) -> Outcome {
+    #[inline(always)]
+    fn store_axis(&mut self, command: Seven, cells: &mut Cells) -> Done {
         motor_zero(command)?;
-        let (row, cell) = sheet::stored_cell(command.kind).ok_or(status::TYPE)?;
+        let (place, cell) = sheet::stored_cell(command.kind()).ok_or(status::TYPE)?;
         self.unlocked()?;
-        sheet::write_cell(cells, cell, self.axis[row]);
-        Ok(command.value)
+        write_cell(cells, cell, self.axis[place]);
+        Ok(())
     }
 
-    fn restore_axis(&mut self, command: Command, cells: &[u8]) -> Outcome {
+    #[inline(always)]
+    fn restore_axis(&mut self, command: Seven, cells: &Cells) -> Done {
         motor_zero(command)?;
-        let (row, cell) = sheet::stored_cell(command.kind).ok_or(status::TYPE)?;
-        self.axis[row] = axis_cell(cells, row, cell);
-        Ok(command.value)
+        let (place, cell) = sheet::stored_cell(command.kind()).ok_or(status::TYPE)?;
+        self.axis[place] = taken(&sheet::ROWS[place], read_cell(cells, cell));
+        Ok(())
     }
 
     /// SGP and AGP.
-    fn set_global(&mut self, command: Command, value: i32, cells: &mut [u8]) -> Outcome {
-        match command.motor {
-            0 => self.set_bank_0(command.kind, value, cells)?,
+    #[inline(always)]
+    fn set_global(&mut self, command: Seven, value: i32, cells: &mut Cells) -> Done {
+        match command.motor() {
+            0 => self.set_bank_0(command.kind(), value, cells)?,
             2 => self.user[user_variable(command)?] = value,
             _ => return Err(status::VALUE),
         }
-        Ok(command.value)
+        Ok(())
     }
 
     /// Globals of bank 0 reach their cells at once.
-    fn set_bank_0(&mut self, kind: u8, value: i32, cells: &mut [u8]) -> Result<(), u8> {
+    #[inline(never)]
+    fn set_bank_0(&mut self, kind: u8, value: i32, cells: &mut Cells) -> Done {
         match kind {
             66 => {
                 let address = u8::try_from(value).map_err(|_| status::VALUE)?;
@@ -136,7 +182,7 @@ impl Registers {
                 }
                 self.unlocked()?;
                 self.module_address = address;
-                sheet::write_cell(cells, sheet::CELL_66, value);
+                write_cell(cells, sheet::CELL_66, value);
             }
             73 => {
                 self.lock = match value {
@@ -144,13 +190,13 @@ impl Registers {
                     UNLOCK => 0,
                     _ => return Err(status::VALUE),
                 };
-                sheet::write_cell(cells, sheet::CELL_73, self.lock);
+                write_cell(cells, sheet::CELL_73, self.lock);
             }
             76 => {
                 let address = u8::try_from(value).map_err(|_| status::VALUE)?;
                 self.unlocked()?;
                 self.reply_address = address;
-                sheet::write_cell(cells, sheet::CELL_76, value);
+                write_cell(cells, sheet::CELL_76, value);
             }
             77 => {
                 if !(0..=1).contains(&value) {
@@ -158,58 +204,67 @@ impl Registers {
                 }
                 self.unlocked()?;
                 self.autostart = value;
-                sheet::write_cell(cells, sheet::CELL_77, value);
+                write_cell(cells, sheet::CELL_77, value);
             }
             _ => return Err(status::TYPE),
         }
         Ok(())
     }
 
-    fn get_global(&self, command: Command) -> Outcome {
-        match (command.motor, command.kind) {
-            (0, 66) => Ok(self.module_address.into()),
-            (0, 73) => Ok(self.lock),
-            (0, 76) => Ok(self.reply_address.into()),
-            (0, 77) => Ok(self.autostart),
-            (0, 128) => Ok(self.running.into()),
-            (0, 130) => Ok(self.address.into()),
-            (0, _) => Err(status::TYPE),
-            (2, _) => Ok(self.user[user_variable(command)?]),
+    #[inline(always)]
+    fn get_global(&self, command: Seven, address: usize) -> Outcome {
+        match command.motor() {
+            0 => self.get_bank_0(command.kind(), address),
+            2 => Ok(self.user[user_variable(command)?]),
             _ => Err(status::VALUE),
         }
     }
 
-    fn store_user(&mut self, command: Command, cells: &mut [u8]) -> Outcome {
+    #[inline(always)]
+    fn get_bank_0(&self, kind: u8, address: usize) -> Outcome {
+        match kind {
+            66 => Ok(self.module_address.into()),
+            73 => Ok(self.lock),
+            76 => Ok(self.reply_address.into()),
+            77 => Ok(self.autostart),
+            128 => Ok(self.running.into()),
+            130 => Ok(address as i32),
+            _ => Err(status::TYPE),
+        }
+    }
+
+    #[inline(always)]
+    fn store_user(&mut self, command: Seven, cells: &mut Cells) -> Done {
         bank_2(command)?;
         let variable = user_variable(command)?;
         self.unlocked()?;
-        sheet::write_cell(cells, sheet::CELL_USER + variable, self.user[variable]);
-        Ok(command.value)
+        write_cell(cells, sheet::CELL_USER + variable, self.user[variable]);
+        Ok(())
     }
 
-    fn restore_user(&mut self, command: Command, cells: &[u8]) -> Outcome {
+    #[inline(always)]
+    fn restore_user(&mut self, command: Seven, cells: &Cells) -> Done {
         bank_2(command)?;
         let variable = user_variable(command)?;
-        self.user[variable] = sheet::read_cell(cells, sheet::CELL_USER + variable);
-        Ok(command.value)
+        self.user[variable] = read_cell(cells, sheet::CELL_USER + variable);
+        Ok(())
     }
 
-    fn set_output(&mut self, command: Command) -> Outcome {
+    #[inline(always)]
+    fn set_output(&mut self, command: Seven) -> Done {
         bank_2(command)?;
-        let port = command.kind as usize;
-        if port >= self.outputs.len() {
-            return Err(status::TYPE);
-        }
-        if !(0..=1).contains(&command.value) {
+        let output = self.outputs.get_mut(usize::from(command.kind())).ok_or(status::TYPE)?;
+        if !(0..=1).contains(&command.value()) {
             return Err(status::VALUE);
         }
-        self.outputs[port] = command.value as u8;
-        Ok(command.value)
+        *output = command.value() as u8;
+        Ok(())
     }
 
-    fn get_input_or_output(&self, command: Command) -> Outcome {
-        let port = command.kind as usize;
-        let value = match command.motor {
+    #[inline(always)]
+    fn get_input_or_output(&self, command: Seven) -> Outcome {
+        let port = usize::from(command.kind());
+        let value = match command.motor() {
             0 => self.digital.get(port).map(|&input| input.into()),
             1 => self.analog.get(port).copied(),
             2 => self.outputs.get(port).map(|&output| output.into()),
@@ -218,43 +273,33 @@ impl Registers {
         value.ok_or(status::TYPE)
     }
 
-    fn calc(&mut self, command: Command) -> Outcome {
-        let (accumulator, value) = (self.accumulator, command.value);
-        self.accumulator = match command.kind {
-            8 => !accumulator,
-            9 => value,
-            kind => arithmetic(kind, accumulator, value)?,
-        };
-        Ok(self.accumulator)
-    }
-
-    fn calcx(&mut self, command: Command) -> Outcome {
-        let (accumulator, x) = (self.accumulator, self.x);
-        match command.kind {
-            8 => self.accumulator = !x,
-            9 => self.x = accumulator,
-            10 => (self.accumulator, self.x) = (x, accumulator),
-            kind => self.accumulator = arithmetic(kind, accumulator, x)?,
+    /// Answers the accumulator as it then is.
+    #[inline(always)]
+    fn calcx(&mut self, command: Seven, accumulator: i32) -> Outcome {
+        match command.kind() {
+            8 => Ok(!self.x),
+            9 => {
+                self.x = accumulator;
+                Ok(accumulator)
+            }
+            10 => Ok(std::mem::replace(&mut self.x, accumulator)),
+            kind => arithmetic(kind, accumulator, self.x),
         }
-        Ok(self.accumulator)
     }
 
-    fn compare(&mut self, command: Command) -> i32 {
-        self.comparison = self.accumulator.cmp(&command.value) as i8;
-        command.value
-    }
-
-    fn clear_flags(&mut self, command: Command) -> Outcome {
-        match command.kind {
+    #[inline(always)]
+    fn clear_flags(&mut self, command: Seven) -> Done {
+        match command.kind() {
             0 => self.flags = [0; 4],
-            flag @ 1..=4 => self.flags[flag as usize - 1] = 0,
+            flag @ 1..=4 => self.flags[usize::from(flag) - 1] = 0,
             _ => return Err(status::TYPE),
         }
-        Ok(command.value)
+        Ok(())
     }
 
     /// Refuses with 5 while locked.
-    pub fn unlocked(&self) -> Result<(), u8> {
+    #[inline(always)]
+    pub fn unlocked(&self) -> Done {
         if self.locked() {
             Err(status::LOCKED)
         } else {
@@ -263,7 +308,18 @@ impl Registers {
     }
 }
 
+/// Answers the accumulator as it then is.
+#[inline(always)]
+fn calc(command: Seven, accumulator: i32) -> Outcome {
+    match command.kind() {
+        8 => Ok(!accumulator),
+        9 => Ok(command.value()),
+        kind => arithmetic(kind, accumulator, command.value()),
+    }
+}
+
 /// Types 0 to 7 of CALC and CALCX.
+#[inline(always)]
 fn arithmetic(kind: u8, left: i32, right: i32) -> Outcome {
     match kind {
         0 => Ok(left.wrapping_add(right)),
@@ -280,8 +336,9 @@ fn arithmetic(kind: u8, left: i32, right: i32) -> Outcome {
 }
 
 /// Axis commands want motor 0.
-pub fn motor_zero(command: Command) -> Result<(), u8> {
-    if command.motor == 0 {
+#[inline(always)]
+pub fn motor_zero(command: Seven) -> Done {
+    if command.motor() == 0 {
         Ok(())
     } else {
         Err(status::VALUE)
@@ -289,8 +346,9 @@ pub fn motor_zero(command: Command) -> Result<(), u8> {
 }
 
 /// STGP, RSGP and SIO want bank 2.
-pub fn bank_2(command: Command) -> Result<(), u8> {
-    if command.motor == 2 {
+#[inline(always)]
+pub fn bank_2(command: Seven) -> Done {
+    if command.motor() == 2 {
         Ok(())
     } else {
         Err(status::VALUE)
@@ -298,8 +356,9 @@ pub fn bank_2(command: Command) -> Result<(), u8> {
 }
 
 /// The user variable that the type names.
-pub fn user_variable(command: Command) -> Result<usize, u8> {
-    let variable = command.kind as usize;
+#[inline(always)]
+pub fn user_variable(command: Seven) -> Result<usize, u8> {
+    let variable = usize::from(command.kind());
     if variable < USER_VARIABLES {
         Ok(variable)
     } else {

@@ -1,76 +1,81 @@
 //! The events: datagram, sample, tick, run and power-up, each judged in the
 //! paper's order before anything is touched.
 
-use super::registers::{Order, Registers, Wait, EAL, P211, P212, P213, P220, P221, P51, P52, P55};
-use super::sheet::{self, Access, AXIS, CELLS_LENGTH, ROWS, USER_VARIABLES};
+use super::registers::{Order, Registers, EAL, P211, P212, P213, P220, P221, P51, P52, P55};
+use super::sheet::{self, Access, Row, ROWS};
 use super::steps::{Ran, Unwatched, Watch};
-use super::wire::{self, Command, DATAGRAM_LENGTH};
-use super::{status, GREATEST_BUDGET, GREATEST_DEPTH, PROGRAM_LENGTH};
+use super::store::{self, read_cell, write_cell, Cells};
+use super::wire::{self, Frame, Seven};
+use super::{status, GREATEST_BUDGET};
 
 /// Writes the 91 default cells.
 pub fn new_cells(cells: &mut [u8]) -> u8 {
-    if cells.len() != CELLS_LENGTH {
-        return status::LENGTH;
+    match store::cells_mut(cells) {
+        Some(cells) => {
+            put_default_cells(cells);
+            status::DONE
+        }
+        None => status::LENGTH,
     }
+}
+
+/// Writes the 91 default cells into a store of the right length.
+pub fn put_default_cells(cells: &mut Cells) {
     let stored = ROWS.iter().filter(|row| row.access == Access::Stored);
     for (cell, row) in stored.enumerate() {
-        sheet::write_cell(cells, cell, row.default);
+        write_cell(cells, cell, row.default);
     }
-    sheet::write_cell(cells, sheet::CELL_66, sheet::DEFAULT_66.into());
-    sheet::write_cell(cells, sheet::CELL_73, sheet::DEFAULT_73);
-    sheet::write_cell(cells, sheet::CELL_76, sheet::DEFAULT_76.into());
-    sheet::write_cell(cells, sheet::CELL_77, sheet::DEFAULT_77);
-    cells[sheet::CELL_USER * 4..].fill(0);
-    status::DONE
+    write_cell(cells, sheet::CELL_66, sheet::DEFAULT_66.into());
+    write_cell(cells, sheet::CELL_73, sheet::DEFAULT_73);
+    write_cell(cells, sheet::CELL_76, sheet::DEFAULT_76.into());
+    write_cell(cells, sheet::CELL_77, sheet::DEFAULT_77);
+    cells[sheet::CELL_USER..].fill([0; 4]);
 }
 
 impl Registers {
     /// The registers as power-up leaves them; `None` for cells of another
     /// length.
     pub fn powered_up(cells: &[u8]) -> Option<Registers> {
-        if cells.len() != CELLS_LENGTH {
-            return None;
-        }
-        let autostart = bit_cell(cells, sheet::CELL_77, sheet::DEFAULT_77);
-        let registers = Registers {
-            accumulator: 0,
-            x: 0,
-            comparison: 0,
-            flags: [0; 4],
-            address: 0,
-            running: autostart == 1,
-            wait: Wait::default(),
-            download: false,
-            write_address: 0,
-            order: Order::Stopped,
-            velocity: 0,
-            outputs: [0; 4],
-            digital: [0; 2],
-            analog: [0; 3],
-            depth: 0,
-            stack: [0; GREATEST_DEPTH as usize],
-            axis: axis_from_cells(cells),
-            module_address: module_address_cell(cells),
-            lock: bit_cell(cells, sheet::CELL_73, sheet::DEFAULT_73),
-            reply_address: reply_address_cell(cells),
-            autostart,
-            user: user_from_cells(cells),
-        };
-        Some(registers)
+        let mut registers = Registers::cleared();
+        (registers.power_up(cells) == status::DONE).then_some(registers)
     }
 
     /// Power-up.
     pub fn power_up(&mut self, cells: &[u8]) -> u8 {
-        match Registers::powered_up(cells) {
-            Some(registers) => {
-                *self = registers;
+        match store::cells(cells) {
+            Some(cells) => {
+                self.take_cells(cells);
                 status::DONE
             }
             None => status::LENGTH,
         }
     }
 
+    /// What power-up does: each cell's value if it is in range, else the
+    /// default; all else 0, and running exactly if global 77 is 1.
+    #[inline(always)]
+    pub fn take_cells(&mut self, cells: &Cells) {
+        self.clear();
+        self.axis = sheet::DEFAULTS;
+        for (cell, &place) in sheet::STORED_PLACES.iter().enumerate() {
+            self.axis[place] = taken(&ROWS[place], read_cell(cells, cell));
+        }
+        self.module_address = match u8::try_from(read_cell(cells, sheet::CELL_66)) {
+            Ok(address) if address >= 1 => address,
+            _ => sheet::DEFAULT_66,
+        };
+        self.lock = bit_cell(cells, sheet::CELL_73, sheet::DEFAULT_73);
+        self.reply_address =
+            u8::try_from(read_cell(cells, sheet::CELL_76)).unwrap_or(sheet::DEFAULT_76);
+        self.autostart = bit_cell(cells, sheet::CELL_77, sheet::DEFAULT_77);
+        self.running = self.autostart == 1;
+        for (value, cell) in self.user.iter_mut().zip(&cells[sheet::CELL_USER..]) {
+            *value = i32::from_be_bytes(*cell);
+        }
+    }
+
     /// A datagram: 0 where there is no reply, 20 or 23, else its status.
+    #[inline]
     pub fn datagram(
         &mut self,
         program: &mut [u8],
@@ -82,6 +87,7 @@ impl Registers {
     }
 
     /// A datagram whose step, if it is a 130, is watched.
+    #[inline]
     pub fn datagram_watched(
         &mut self,
         program: &mut [u8],
@@ -90,33 +96,36 @@ impl Registers {
         bytes: &[u8],
         watch: &mut impl Watch,
     ) -> u8 {
-        let lengths = (program.len(), cells.len(), reply.len());
-        if lengths != (PROGRAM_LENGTH, CELLS_LENGTH, DATAGRAM_LENGTH) {
+        let reply = <&mut Frame>::try_from(reply);
+        let (Some(program), Some(cells), Ok(reply)) =
+            (store::program_mut(program), store::cells_mut(cells), reply)
+        else {
             return status::LENGTH;
-        }
+        };
         if !self.in_range() {
             return status::REGISTERS;
         }
-        if bytes.len() != DATAGRAM_LENGTH || bytes[0] != self.module_address {
+        let Ok(bytes) = <&Frame>::try_from(bytes) else {
+            return status::NONE;
+        };
+        let [address, seven @ .., sum] = bytes;
+        if *address != self.module_address {
             return status::NONE;
         }
         // A command may change the addresses; the reply has those before it.
-        let addresses = [self.reply_address, self.module_address];
-        let command = Command::from_record(&bytes[1..8]);
-        let outcome = if wire::checksum(bytes) == bytes[8] {
-            self.obey(command, program, cells, watch)
+        let (to, from) = (self.reply_address, self.module_address);
+        let outcome = if wire::checksum(bytes) == *sum {
+            self.obey(Seven(seven), program, cells, watch)
         } else {
             Err(status::CHECKSUM)
         };
-        let (status, value) = match outcome {
-            Ok(done) => done,
-            Err(refusal) => (refusal, 0),
-        };
-        wire::write_reply(reply, addresses, status, command.number, value);
+        let (status, value) = outcome.unwrap_or_else(|refusal| (refusal, 0));
+        wire::write_frame(reply, [to, from, status, seven[0]], value);
         status
     }
 
     /// A sample, its fields in the script's order.
+    #[inline]
     pub fn sample(&mut self, sample: &[i32; 16]) -> u8 {
         if !self.in_range() {
             return status::REGISTERS;
@@ -124,20 +133,21 @@ impl Registers {
         if !sample_in_range(sample) {
             return status::SAMPLE;
         }
-        for (field, row) in [P51, P52, P55, P211, P212, P213, P220, P221].into_iter().enumerate() {
-            self.axis[row] = sample[field];
+        for (field, place) in [P51, P52, P55, P211, P212, P213, P220, P221].into_iter().enumerate()
+        {
+            self.axis[place] = sample[field];
         }
         self.digital = [sample[8] as u8, sample[9] as u8];
         self.analog = [sample[10], sample[11], sample[12]];
+        // An alarm that is on sets its flag, one that is off clears nothing.
         for alarm in 0..3 {
-            if sample[13 + alarm] == 1 {
-                self.flags[EAL + alarm] = 1;
-            }
+            self.flags[EAL + alarm] |= sample[13 + alarm] as u8;
         }
         status::DONE
     }
 
     /// A tick of 10 ms.
+    #[inline]
     pub fn tick(&mut self) -> u8 {
         if !self.in_range() {
             return status::REGISTERS;
@@ -149,11 +159,13 @@ impl Registers {
     }
 
     /// Runs at most `budget` steps.
+    #[inline]
     pub fn run(&mut self, program: &[u8], cells: &mut [u8], budget: usize) -> Ran {
         self.run_watched(program, cells, budget, &mut Unwatched)
     }
 
     /// A run whose steps are watched.
+    #[inline]
     pub fn run_watched(
         &mut self,
         program: &[u8],
@@ -161,69 +173,68 @@ impl Registers {
         budget: usize,
         watch: &mut impl Watch,
     ) -> Ran {
-        if program.len() != PROGRAM_LENGTH || cells.len() != CELLS_LENGTH {
+        let (Some(program), Some(cells)) = (store::program(program), store::cells_mut(cells))
+        else {
             return Ran { status: status::LENGTH, steps: 0 };
-        }
+        };
         if !self.in_range() {
             return Ran { status: status::REGISTERS, steps: 0 };
         }
         if budget > GREATEST_BUDGET {
             return Ran { status: status::BUDGET, steps: 0 };
         }
+        if !self.running || budget == 0 {
+            return Ran { status: status::DONE, steps: 0 };
+        }
         self.steps(program, cells, budget, watch)
     }
+
+    /// Makes the registers 0, the last comparison "equal", the stack empty and
+    /// the order stopped; the parameters are left to the caller.
+    fn clear(&mut self) {
+        self.accumulator = 0;
+        self.x = 0;
+        self.comparison = 0;
+        self.flags = [0; 4];
+        self.address = 0;
+        self.running = false;
+        self.drop_wait();
+        self.download = false;
+        self.write_address = 0;
+        self.give_order(Order::Stopped, 0);
+        self.outputs = [0; 4];
+        self.digital = [0; 2];
+        self.analog = [0; 3];
+        self.empty_stack();
+    }
 }
 
+#[inline(always)]
 fn sample_in_range(sample: &[i32; 16]) -> bool {
-    let bit = |field: usize| (0..=1).contains(&sample[field]);
-    (2..6).all(bit)
+    let bits = sample[2..6].iter().chain(&sample[8..10]).chain(&sample[13..16]);
+    // Of numbers below a power of two their OR is below it as well, so one
+    // test serves them all; a negative one has the highest bit.
+    let bits = bits.fold(0, |all, &field| all | field);
+    let analog = sample[10] | sample[11] | sample[12];
+    (0..=1).contains(&bits)
+        && (0..=65_535).contains(&analog)
         && ROWS[P220].allows(sample[6])
         && ROWS[P221].allows(sample[7])
-        && (8..10).all(bit)
-        && (10..13).all(|field| (0..=65_535).contains(&sample[field]))
-        && (13..16).all(bit)
 }
 
-/// An axis parameter's cell, or its default where the cell is out of range.
-pub fn axis_cell(cells: &[u8], row: usize, cell: usize) -> i32 {
-    let value = sheet::read_cell(cells, cell);
-    if ROWS[row].allows(value) {
+/// A cell's value, or the row's default where it is out of range.
+#[inline(always)]
+pub fn taken(row: &Row, value: i32) -> i32 {
+    if row.allows(value) {
         value
     } else {
-        ROWS[row].default
+        row.default
     }
 }
 
-fn axis_from_cells(cells: &[u8]) -> [i32; AXIS] {
-    let mut axis = [0; AXIS];
-    let mut cell = 0;
-    for (place, row) in ROWS.iter().enumerate() {
-        axis[place] = row.default;
-        if row.access == Access::Stored {
-            axis[place] = axis_cell(cells, place, cell);
-            cell += 1;
-        }
-    }
-    axis
-}
-
-fn user_from_cells(cells: &[u8]) -> [i32; USER_VARIABLES] {
-    std::array::from_fn(|variable| sheet::read_cell(cells, sheet::CELL_USER + variable))
-}
-
-fn module_address_cell(cells: &[u8]) -> u8 {
-    match u8::try_from(sheet::read_cell(cells, sheet::CELL_66)) {
-        Ok(address) if address >= 1 => address,
-        _ => sheet::DEFAULT_66,
-    }
-}
-
-fn reply_address_cell(cells: &[u8]) -> u8 {
-    u8::try_from(sheet::read_cell(cells, sheet::CELL_76)).unwrap_or(sheet::DEFAULT_76)
-}
-
-fn bit_cell(cells: &[u8], cell: usize, default: i32) -> i32 {
-    match sheet::read_cell(cells, cell) {
+#[inline(always)]
+fn bit_cell(cells: &Cells, cell: usize, default: i32) -> i32 {
+    match read_cell(cells, cell) {
         value @ 0..=1 => value,
         _ => default,
     }

@@ -1,6 +1,6 @@
 //! The registers, their image of 137 numbers, and the test for 23.
 
-use super::sheet::{place_of, AXIS, ROWS, USER_VARIABLES};
+use super::sheet::{self, place_of, AXIS, USER_VARIABLES};
 use super::{END_ADDRESS, GREATEST_DEPTH};
 
 /// Numbers in the image of the registers.
@@ -75,39 +75,89 @@ pub struct Registers {
 }
 
 impl Registers {
+    /// All registers 0, as no board has them: power-up comes first.
+    pub fn cleared() -> Registers {
+        Registers {
+            accumulator: 0,
+            x: 0,
+            comparison: 0,
+            flags: [0; 4],
+            address: 0,
+            running: false,
+            wait: Wait::default(),
+            download: false,
+            write_address: 0,
+            order: Order::Stopped,
+            velocity: 0,
+            outputs: [0; 4],
+            digital: [0; 2],
+            analog: [0; 3],
+            depth: 0,
+            stack: [0; GREATEST_DEPTH as usize],
+            axis: [0; AXIS],
+            module_address: 0,
+            lock: 0,
+            reply_address: 0,
+            autostart: 0,
+            user: [0; USER_VARIABLES],
+        }
+    }
+
     /// Whether no register is out of range; if not, events answer 23.
+    ///
+    /// Every event asks this, and nearly always all is well: so all of it is
+    /// looked at without a branch in between.
+    #[inline(always)]
     pub fn in_range(&self) -> bool {
-        self.address <= END_ADDRESS
-            && self.write_address <= END_ADDRESS
-            && self.depth <= GREATEST_DEPTH
-            && self.stack.iter().all(|&entry| entry <= END_ADDRESS)
-            && self.flags.iter().all(|&flag| flag <= 1)
-            && self.outputs.iter().all(|&output| output <= 1)
-            && self.digital.iter().all(|&input| input <= 1)
-            && self.analog.iter().all(|&input| (0..=65_535).contains(&input))
-            && self.module_address >= 1
-            && (0..=1).contains(&self.lock)
-            && (0..=1).contains(&self.autostart)
-            && ROWS.iter().zip(&self.axis).all(|(row, &value)| row.allows(value))
+        self.counts_in_range() & self.pins_in_range() & sheet::all_allowed(&self.axis)
+    }
+
+    /// Addresses and depth.
+    #[inline(always)]
+    fn counts_in_range(&self) -> bool {
+        let above = |entry: &u16| entry.saturating_sub(END_ADDRESS);
+        let stack = self.stack.iter().fold(0, |all, entry| all | above(entry));
+        (self.address <= END_ADDRESS)
+            & (self.write_address <= END_ADDRESS)
+            & (self.depth <= GREATEST_DEPTH)
+            & (stack == 0)
+    }
+
+    /// Flags, outputs, inputs and globals. Of numbers below a power of two
+    /// their OR is below it as well, so one test serves several of them; a
+    /// negative number has the highest bit.
+    #[inline(always)]
+    fn pins_in_range(&self) -> bool {
+        let digital = u32::from(u16::from_ne_bytes(self.digital));
+        let bits = u32::from_ne_bytes(self.flags) | u32::from_ne_bytes(self.outputs) | digital;
+        let analog = self.analog[0] | self.analog[1] | self.analog[2];
+        (bits & !0x0101_0101 == 0)
+            & (analog as u32 <= 65_535)
+            & (self.module_address >= 1)
+            & ((self.lock | self.autostart) as u32 <= 1)
     }
 
     /// Whether stored settings and program are locked.
+    #[inline(always)]
     pub fn locked(&self) -> bool {
         self.lock == 1
     }
 
     /// Makes the wait's fields 0.
+    #[inline(always)]
     pub fn drop_wait(&mut self) {
         self.wait = Wait::default();
     }
 
     /// Makes the depth and all return addresses 0.
+    #[inline(always)]
     pub fn empty_stack(&mut self) {
         self.depth = 0;
         self.stack = [0; GREATEST_DEPTH as usize];
     }
 
     /// Gives an order; only order velocity has a velocity.
+    #[inline(always)]
     pub fn give_order(&mut self, order: Order, velocity: i32) {
         self.order = order;
         self.velocity = velocity;

@@ -54,6 +54,7 @@ pub struct Row {
 
 impl Row {
     /// Whether the parameter may have this value.
+    #[inline(always)]
     pub fn allows(&self, value: i32) -> bool {
         self.low <= value && value <= self.high && self.gap != Some(value)
     }
@@ -134,6 +135,10 @@ const NOWHERE: u8 = u8::MAX;
 static PLACES: [u8; 256] = places();
 /// For each row its cell, or `NOWHERE`.
 static CELL_OF_ROW: [u8; AXIS] = cells_of_rows();
+/// For each cell of an axis parameter its row.
+pub static STORED_PLACES: [usize; STORED_AXIS] = stored_places();
+/// The rows' defaults.
+pub const DEFAULTS: [i32; AXIS] = defaults();
 
 const fn places() -> [u8; 256] {
     let mut places = [NOWHERE; 256];
@@ -147,48 +152,101 @@ const fn places() -> [u8; 256] {
 
 const fn cells_of_rows() -> [u8; AXIS] {
     let mut cells = [NOWHERE; AXIS];
-    let (mut place, mut cell) = (0, 0);
-    while place < AXIS {
-        if matches!(SHEET[place].access, Access::Stored) {
-            cells[place] = cell;
-            cell += 1;
-        }
-        place += 1;
+    let places = stored_places();
+    let mut cell = 0;
+    while cell < STORED_AXIS {
+        cells[places[cell]] = cell as u8;
+        cell += 1;
     }
     cells
 }
 
-/// The row of an axis parameter's number.
-pub fn place_of(number: u8) -> Option<usize> {
-    match PLACES[number as usize] {
-        NOWHERE => None,
-        place => Some(place as usize),
+const fn stored_places() -> [usize; STORED_AXIS] {
+    let mut places = [0; STORED_AXIS];
+    let (mut place, mut cell) = (0, 0);
+    while place < AXIS {
+        if matches!(SHEET[place].access, Access::Stored) {
+            places[cell] = place;
+            cell += 1;
+        }
+        place += 1;
     }
+    places
 }
 
-/// The row of a parameter that may be set.
-pub fn settable(number: u8) -> Option<usize> {
-    place_of(number).filter(|&place| ROWS[place].access != Access::Read)
+const fn defaults() -> [i32; AXIS] {
+    let mut defaults = [0; AXIS];
+    let mut place = 0;
+    while place < AXIS {
+        defaults[place] = SHEET[place].default;
+        place += 1;
+    }
+    defaults
 }
 
-/// The row and the cell of a parameter that is stored.
+/// The rows' ranges as one signed comparison each: a value is in range if,
+/// less its start, it is not above its span. Both are moved down by half of
+/// all numbers, so that what lies below the low end comes out above the span.
+struct Ranges {
+    starts: [i32; AXIS],
+    spans: [i32; AXIS],
+}
+
+static RANGES: Ranges = ranges();
+
+const fn ranges() -> Ranges {
+    let mut ranges = Ranges { starts: [0; AXIS], spans: [0; AXIS] };
+    let mut place = 0;
+    while place < AXIS {
+        let Row { low, high, .. } = SHEET[place];
+        ranges.starts[place] = low.wrapping_add(i32::MIN);
+        ranges.spans[place] = high.wrapping_sub(low).wrapping_add(i32::MIN);
+        place += 1;
+    }
+    ranges
+}
+
+/// The rows with a gap; `all_allowed` looks at them by name.
+const P14: usize = 2;
+const P102: usize = 25;
+
+/// Whether each parameter may have its value: `Row::allows` for all of them
+/// at once, without a branch, so that the compiler tests four at a time.
+#[inline(always)]
+pub fn all_allowed(values: &[i32; AXIS]) -> bool {
+    let mut outside = 0;
+    for (value, (start, span)) in values.iter().zip(RANGES.starts.iter().zip(&RANGES.spans)) {
+        outside |= i32::from(value.wrapping_sub(*start) > *span);
+    }
+    (outside == 0) & (values[P14] != 2) & (values[P102] != 1)
+}
+
+/// The place and the row of an axis parameter's number.
+#[inline(always)]
+pub fn row_of(number: u8) -> Option<(usize, &'static Row)> {
+    let place = usize::from(PLACES[usize::from(number)]);
+    ROWS.get(place).map(|row| (place, row))
+}
+
+/// The place of an axis parameter's number.
+pub fn place_of(number: u8) -> Option<usize> {
+    row_of(number).map(|(place, _)| place)
+}
+
+/// The place and the row of a parameter that may be set.
+#[inline(always)]
+pub fn settable(number: u8) -> Option<(usize, &'static Row)> {
+    row_of(number).filter(|(_, row)| row.access != Access::Read)
+}
+
+/// The place and the cell of a parameter that is stored.
+#[inline(always)]
 pub fn stored_cell(number: u8) -> Option<(usize, usize)> {
-    let place = place_of(number)?;
+    let (place, _) = row_of(number)?;
     match CELL_OF_ROW[place] {
         NOWHERE => None,
-        cell => Some((place, cell as usize)),
+        cell => Some((place, usize::from(cell))),
     }
-}
-
-/// The number in a cell.
-pub fn read_cell(cells: &[u8], cell: usize) -> i32 {
-    let at = cell * 4;
-    i32::from_be_bytes([cells[at], cells[at + 1], cells[at + 2], cells[at + 3]])
-}
-
-/// Puts a number into a cell.
-pub fn write_cell(cells: &mut [u8], cell: usize, value: i32) {
-    cells[cell * 4..cell * 4 + 4].copy_from_slice(&value.to_be_bytes());
 }
 
 #[cfg(test)]
@@ -210,5 +268,21 @@ mod tests {
         assert_eq!(stored_cell(50), None);
         assert_eq!(place_of(0), None);
         assert_eq!((CELLS, CELLS_LENGTH), (91, 364));
+    }
+
+    #[test]
+    fn all_rows_at_once_are_the_rows_one_by_one() {
+        assert!(all_allowed(&DEFAULTS));
+        for (place, row) in ROWS.iter().enumerate() {
+            let ends =
+                [row.low, row.high, row.default, row.gap.unwrap_or(0), 0, i32::MIN, i32::MAX];
+            for value in
+                ends.into_iter().flat_map(|end| (-2..=2).map(move |by| end.wrapping_add(by)))
+            {
+                let mut values = DEFAULTS;
+                values[place] = value;
+                assert_eq!(all_allowed(&values), row.allows(value), "{}: {value}", row.number);
+            }
+        }
     }
 }

@@ -1,10 +1,11 @@
 //! Program steps: the flow commands and the run of a program.
 
 use super::control::record_address;
-use super::direct::motor_zero;
+use super::direct::{motor_zero, Carried, Hand, Next};
 use super::registers::{Registers, Wait, ETO, P211, P212, P213, P55};
-use super::wire::Command;
-use super::{number, status, END_ADDRESS, GREATEST_DEPTH, RECORD_LENGTH};
+use super::store::{Cells, Program};
+use super::wire::{Command, Seven};
+use super::{number, status};
 
 /// What a run answers.
 #[derive(Clone, Copy, Debug, PartialEq, Eq)]
@@ -15,6 +16,8 @@ pub struct Ran {
 
 /// Sees each step before and after it, to count what was reached.
 pub trait Watch {
+    /// False where nobody looks, so that nothing is made ready to look at.
+    const WATCHES: bool;
     /// `command` is `None` at address 1,024.
     fn before(&mut self, registers: &Registers, command: Option<Command>);
     fn after(&mut self, registers: &Registers, status: u8);
@@ -24,134 +27,183 @@ pub trait Watch {
 pub struct Unwatched;
 
 impl Watch for Unwatched {
+    const WATCHES: bool = false;
     fn before(&mut self, _: &Registers, _: Option<Command>) {}
     fn after(&mut self, _: &Registers, _: u8) {}
 }
 
-/// The address a step leads to, or the status that refuses it.
-type Next = Result<u16, u8>;
-
 impl Registers {
-    /// Steps until the budget is used, the program stops, or a WAIT holds.
+    /// Steps until the budget is used, the program stops, or a WAIT holds. The
+    /// first step is carried out whatever the budget and whether the program
+    /// is running or not.
+    #[inline(never)]
     pub fn steps(
         &mut self,
-        program: &[u8],
-        cells: &mut [u8],
+        program: &Program,
+        cells: &mut Cells,
         budget: usize,
         watch: &mut impl Watch,
     ) -> Ran {
-        let mut ran = Ran { status: status::DONE, steps: 0 };
-        while ran.steps < budget && self.running {
-            ran.status = self.step(program, cells, watch);
-            ran.steps += 1;
-            // Every step but a holding WAIT leaves no wait armed.
-            if self.wait.armed {
-                break;
-            }
-        }
-        ran
-    }
-
-    /// Carries out the record at the program address; answers its status.
-    pub fn step(&mut self, program: &[u8], cells: &mut [u8], watch: &mut impl Watch) -> u8 {
-        if self.address == END_ADDRESS {
-            watch.before(self, None);
-            self.drop_wait();
-            self.running = false;
-            watch.after(self, status::VALUE);
-            return status::VALUE;
-        }
-        let at = self.address as usize * RECORD_LENGTH;
-        let command = Command::from_record(&program[at..at + RECORD_LENGTH]);
-        watch.before(self, Some(command));
-        let status = match self.next_address(command, cells) {
-            Ok(next) => {
-                self.address = next;
-                status::DONE
-            }
-            Err(refusal) => {
-                self.drop_wait();
-                if refusal == status::COMMAND {
-                    self.running = false;
-                } else {
-                    self.address += 1;
-                }
-                refusal
-            }
-        };
-        watch.after(self, status);
-        status
-    }
-
-    fn next_address(&mut self, command: Command, cells: &mut [u8]) -> Next {
-        if command.number == number::WAIT {
-            return self.wait(command);
-        }
-        self.drop_wait();
-        match command.number {
-            number::JC => self.jump_conditionally(command),
-            number::JA => record_address(command.value),
-            number::CSUB => self.call(command),
-            number::RSUB => self.return_from_call(),
-            number::STOP => {
+        let (mut hand, mut left) = (self.hand(), budget);
+        let mut record = self.fetch(program, &hand, watch);
+        self.drop_before(record);
+        let status = loop {
+            let Some(command) = record else {
+                // Address 1,024: the program stops, the address stays.
                 self.running = false;
-                self.empty_stack();
-                Ok(0)
+                break status::VALUE;
+            };
+            let mut status = status::DONE;
+            match self.carry_out(command, &mut hand, cells) {
+                Ok(Next::On) => hand.address += 1,
+                Ok(Next::There) => {}
+                Ok(Next::Ends) => break status::DONE,
+                Err(refusal) => {
+                    status = refusal;
+                    let goes_on = self.refuse(refusal);
+                    hand.address += usize::from(goes_on);
+                    if !goes_on || left == 1 {
+                        break refusal;
+                    }
+                }
             }
-            number::GAP | number::GGP | number::GIO => {
-                self.accumulator = self.carry_out(command, cells)?;
-                Ok(self.address + 1)
+            if left == 1 {
+                break status::DONE;
             }
-            _ => {
-                self.carry_out(command, cells)?;
-                Ok(self.address + 1)
-            }
+            self.show(&hand, status, watch);
+            left -= 1;
+            record = self.fetch(program, &hand, watch);
+        };
+        self.put_back(&hand);
+        self.show(&hand, status, watch);
+        Ran { status, steps: budget - left + 1 }
+    }
+
+    /// Any step that is not a WAIT drops the wait. Only a run's first step can
+    /// find one: a step leaves it only where it holds, and then the run ends.
+    #[inline(always)]
+    fn drop_before(&mut self, first: Option<Seven>) {
+        if first.is_none_or(|record| record.number() != number::WAIT) {
+            self.drop_wait();
         }
     }
 
-    fn jump_conditionally(&self, command: Command) -> Next {
-        let jumps = match command.kind {
-            0 => self.accumulator == 0,
-            1 => self.accumulator != 0,
+    /// Drops the wait of a refused step; an unknown command stops the program
+    /// and keeps the address. Answers whether the program goes on.
+    ///
+    /// Refusals are rare, and a call that is marked so lets the compiler lay
+    /// out the way of all other steps first.
+    #[cold]
+    #[inline(never)]
+    fn refuse(&mut self, refusal: u8) -> bool {
+        self.drop_wait();
+        if refusal == status::COMMAND {
+            self.running = false;
+            return false;
+        }
+        true
+    }
+
+    /// The record at the program address, `None` at 1,024.
+    #[inline(always)]
+    fn fetch<'p, W: Watch>(
+        &mut self,
+        program: &'p Program,
+        hand: &Hand,
+        watch: &mut W,
+    ) -> Option<Seven<'p>> {
+        let record = program.get(hand.address);
+        if W::WATCHES {
+            self.put_back(hand);
+            watch.before(self, record.map(Command::from_record));
+        }
+        record.map(Seven)
+    }
+
+    /// The registers that a run carries.
+    #[inline(always)]
+    pub fn hand(&self) -> Hand {
+        Hand {
+            accumulator: self.accumulator,
+            address: usize::from(self.address),
+            depth: usize::from(self.depth),
+        }
+    }
+
+    #[inline(always)]
+    fn put_back(&mut self, hand: &Hand) {
+        self.accumulator = hand.accumulator;
+        self.address = hand.address as u16;
+        self.depth = hand.depth as u8;
+    }
+
+    #[inline(always)]
+    fn show<W: Watch>(&mut self, hand: &Hand, status: u8, watch: &mut W) {
+        if W::WATCHES {
+            self.put_back(hand);
+            watch.after(self, status);
+        }
+    }
+
+    #[inline(always)]
+    pub fn jump_conditionally(&self, record: Seven, hand: &mut Hand) -> Carried {
+        let jumps = match record.kind() {
+            0 => hand.accumulator == 0,
+            1 => hand.accumulator != 0,
             2 => self.comparison == 0,
             3 => self.comparison != 0,
             4 => self.comparison > 0,
             5 => self.comparison >= 0,
             6 => self.comparison < 0,
             7 => self.comparison <= 0,
-            flag @ 8..=11 => self.flags[flag as usize - 8] == 1,
+            flag @ 8..=11 => self.flags[usize::from(flag) - 8] == 1,
             _ => return Err(status::TYPE),
         };
         // A wrong target is refused also where the condition does not hold.
-        let target = record_address(command.value)?;
-        Ok(if jumps { target } else { self.address + 1 })
-    }
-
-    fn call(&mut self, command: Command) -> Next {
-        let target = record_address(command.value)?;
-        if self.depth == GREATEST_DEPTH {
-            return Err(status::NOT_NOW);
+        let target = record_address(record.value())?;
+        if !jumps {
+            return Ok(Next::On);
         }
-        self.stack[self.depth as usize] = self.address + 1;
-        self.depth += 1;
-        Ok(target)
+        hand.address = target;
+        Ok(Next::There)
     }
 
-    fn return_from_call(&mut self) -> Next {
-        if self.depth == 0 {
-            return Err(status::NOT_NOW);
-        }
-        self.depth -= 1;
-        Ok(std::mem::take(&mut self.stack[self.depth as usize]))
+    #[inline(always)]
+    pub fn call(&mut self, record: Seven, hand: &mut Hand) -> Carried {
+        let target = record_address(record.value())?;
+        let entry = self.stack.get_mut(hand.depth).ok_or(status::NOT_NOW)?;
+        *entry = hand.address as u16 + 1;
+        hand.depth += 1;
+        hand.address = target;
+        Ok(Next::There)
     }
 
-    fn wait(&mut self, command: Command) -> Next {
-        let ticks = judge_wait(command)?;
+    #[inline(always)]
+    pub fn return_from_call(&mut self, hand: &mut Hand) -> Carried {
+        // At depth 0 this is no entry's number.
+        let top = hand.depth.wrapping_sub(1);
+        let entry = self.stack.get_mut(top).ok_or(status::NOT_NOW)?;
+        hand.depth = top;
+        hand.address = usize::from(std::mem::take(entry));
+        Ok(Next::There)
+    }
+
+    #[inline(always)]
+    pub fn stop(&mut self, hand: &mut Hand) -> Carried {
+        self.running = false;
+        self.empty_stack();
+        (hand.address, hand.depth) = (0, 0);
+        Ok(Next::Ends)
+    }
+
+    #[inline(always)]
+    pub fn wait(&mut self, record: Seven, accumulator: i32) -> Carried {
+        let ticks = judge_wait(record)?;
         if !self.wait.armed {
-            self.arm_wait(ticks)?;
+            self.arm_wait(ticks, accumulator)?;
         }
         let run_out = self.wait.count == 0;
-        let condition = match command.kind {
+        let condition = match record.kind() {
             0 => run_out,
             1 => self.axis[P55] == 1,
             2 => self.axis[P213] == 1,
@@ -159,34 +211,43 @@ impl Registers {
         };
         let timeout = run_out && self.wait.timed;
         if !condition && !timeout {
-            return Ok(self.address);
+            return Ok(Next::Ends);
         }
         if !condition {
             self.flags[ETO] = 1;
         }
         self.drop_wait();
-        Ok(self.address + 1)
+        Ok(Next::On)
     }
 
     /// Arms the count; without ticks it is the accumulator, which is judged
     /// only here.
-    fn arm_wait(&mut self, ticks: Option<u32>) -> Result<(), u8> {
+    #[inline(always)]
+    fn arm_wait(&mut self, ticks: Option<u32>, accumulator: i32) -> Result<(), u8> {
         let count = match ticks {
             Some(count) => count,
-            None => u32::try_from(self.accumulator).map_err(|_| status::VALUE)?,
+            None => u32::try_from(accumulator).map_err(|_| status::VALUE)?,
         };
         self.wait = Wait { armed: true, count, timed: count > 0 };
         Ok(())
     }
 }
 
+#[inline(always)]
+pub fn jump(record: Seven, hand: &mut Hand) -> Carried {
+    hand.address = record_address(record.value())?;
+    Ok(Next::There)
+}
+
 /// The ticks a WAIT asks for; `None` for those in the accumulator.
-pub fn judge_wait(command: Command) -> Result<Option<u32>, u8> {
-    match command.kind {
-        0 if command.value == -1 => return Ok(None),
+#[inline(always)]
+pub fn judge_wait(record: Seven) -> Result<Option<u32>, u8> {
+    let value = record.value();
+    match record.kind() {
+        0 if value == -1 => return Ok(None),
         0 => {}
-        1..=3 => motor_zero(command)?,
+        1..=3 => motor_zero(record)?,
         _ => return Err(status::TYPE),
     }
-    u32::try_from(command.value).map(Some).map_err(|_| status::VALUE)
+    u32::try_from(value).map(Some).map_err(|_| status::VALUE)
 }

@@ -4,8 +4,13 @@ use super::status;
 
 /// Bytes of a command and of a reply.
 pub const DATAGRAM_LENGTH: usize = 9;
+/// Bytes of one record.
+pub const RECORD_LENGTH: usize = 7;
 
-/// A command without its address and checksum, as a record holds it.
+/// The nine bytes of a command or of a reply.
+pub type Frame = [u8; DATAGRAM_LENGTH];
+
+/// A command without its address and checksum.
 #[derive(Clone, Copy, Debug, PartialEq, Eq)]
 pub struct Command {
     pub number: u8,
@@ -18,56 +23,102 @@ pub struct Command {
 
 impl Command {
     /// The command in a record's seven bytes.
-    pub fn from_record(bytes: &[u8]) -> Command {
+    pub fn from_record(bytes: &[u8; RECORD_LENGTH]) -> Command {
+        let bytes = Seven(bytes);
         Command {
-            number: bytes[0],
-            kind: bytes[1],
-            motor: bytes[2],
-            value: i32::from_be_bytes([bytes[3], bytes[4], bytes[5], bytes[6]]),
+            number: bytes.number(),
+            kind: bytes.kind(),
+            motor: bytes.motor(),
+            value: bytes.value(),
         }
     }
 
     /// The seven bytes of a record.
-    pub fn to_record(self) -> [u8; 7] {
+    pub fn to_record(self) -> [u8; RECORD_LENGTH] {
         let value = self.value.to_be_bytes();
         [self.number, self.kind, self.motor, value[0], value[1], value[2], value[3]]
     }
 }
 
+/// A command where its seven bytes lie: in a datagram, or in a record of the
+/// program store. A field is read when it is asked for, so that a command
+/// costs nothing for the fields it does not use.
+#[derive(Clone, Copy)]
+pub struct Seven<'a>(pub &'a [u8; RECORD_LENGTH]);
+
+impl Seven<'_> {
+    #[inline(always)]
+    pub fn number(self) -> u8 {
+        self.0[0]
+    }
+
+    /// The type.
+    #[inline(always)]
+    pub fn kind(self) -> u8 {
+        self.0[1]
+    }
+
+    /// The motor, or the bank.
+    #[inline(always)]
+    pub fn motor(self) -> u8 {
+        self.0[2]
+    }
+
+    #[inline(always)]
+    pub fn value(self) -> i32 {
+        let [_, _, _, value @ ..] = self.0;
+        i32::from_be_bytes(*value)
+    }
+}
+
 /// The first eight bytes added with 8-bit wrapping.
-pub fn checksum(bytes: &[u8]) -> u8 {
-    bytes[..DATAGRAM_LENGTH - 1].iter().fold(0, |sum: u8, &byte| sum.wrapping_add(byte))
+#[inline(always)]
+pub fn checksum(bytes: &Frame) -> u8 {
+    let [bytes @ .., _] = bytes;
+    bytes.iter().fold(0, |sum: u8, &byte| sum.wrapping_add(byte))
 }
 
 /// Builds a command for the board at `address`.
+#[inline]
 pub fn build_command(out: &mut [u8], address: u8, command: Command) -> u8 {
-    if out.len() != DATAGRAM_LENGTH {
+    let Ok(out) = <&mut Frame>::try_from(out) else {
         return status::LENGTH;
-    }
-    out[0] = address;
-    out[1..8].copy_from_slice(&command.to_record());
-    out[8] = checksum(out);
+    };
+    let Command { number, kind, motor, value } = command;
+    write_frame(out, [address, number, kind, motor], value);
     status::DONE
 }
 
-/// Writes a reply into a buffer of nine bytes.
-pub fn write_reply(reply: &mut [u8], addresses: [u8; 2], status: u8, command: u8, value: i32) {
-    reply[..2].copy_from_slice(&addresses);
-    reply[2] = status;
-    reply[3] = command;
-    reply[4..8].copy_from_slice(&value.to_be_bytes());
-    reply[8] = checksum(reply);
+/// Writes four bytes, a value and the checksum of them, the eight bytes as one
+/// number.
+#[inline(always)]
+pub fn write_frame(out: &mut Frame, head: [u8; 4], value: i32) {
+    let eight = u64::from(u32::from_be_bytes(head)) << 32 | u64::from(value as u32);
+    let [bytes @ .., sum] = out;
+    *bytes = eight.to_be_bytes();
+    *sum = bytes_added(eight);
+}
+
+/// The bytes of a number added with 8-bit wrapping: neighbours first, in lanes
+/// of two bytes that hold any such sum, then the lanes.
+#[inline(always)]
+fn bytes_added(number: u64) -> u8 {
+    const LOWER: u64 = 0x00ff_00ff_00ff_00ff;
+    let lanes = (number & LOWER) + (number >> 8 & LOWER);
+    let lanes = lanes + (lanes >> 32);
+    (lanes + (lanes >> 16)) as u8
 }
 
 /// Reads a reply: reply address, module address, status, command, value.
+#[inline]
 pub fn read_reply(bytes: &[u8]) -> (u8, [i32; 5]) {
-    if bytes.len() != DATAGRAM_LENGTH {
+    let Ok(bytes) = <&Frame>::try_from(bytes) else {
         return (status::LENGTH, [0; 5]);
-    }
+    };
     if checksum(bytes) != bytes[8] {
         return (status::CHECKSUM, [0; 5]);
     }
-    let value = i32::from_be_bytes([bytes[4], bytes[5], bytes[6], bytes[7]]);
-    let [to, from, code, command] = [bytes[0], bytes[1], bytes[2], bytes[3]].map(i32::from);
-    (status::DONE, [to, from, code, command, value])
+    let &[to, from, code, command, ref value @ .., _] = bytes;
+    let value = i32::from_be_bytes(*value);
+    (status::DONE, [to.into(), from.into(), code.into(), command.into(), value])
 }

@@ -1,3 +1,2 @@
 pub mod Registers
 pub mod Range
-pub mod Step

@@ -6,13 +6,13 @@ use mathlib.Core.List.{List}
 use lib.Dec.{T}
 use Rattle.wire.specs.declared.Command.{Command}
 use Rattle.status.specs.Status.{numberOf}
-use Rattle.commands.specs.Obey.{obeyed}
+use Rattle.rules.specs.Obey.{obeyed}
 use Rattle.replying.specs.Reply.{byteOf, addresses, replied}
 use Rattle.replying.specs.declared.Addresses.{Addresses}
 use Rattle.serial.specs.Serial.{takenOf}
 use Rattle.serial.specs.declared.Taken.{Taken}
 use Rattle.serial.specs.declared.Taken.the-variants.{NotOurs, Damaged, Whole}
-use Rattle.datagrams.specs.Datagram.{Board, board, After, unchanged, obeyedBy, received, lent}
+use Rattle.rules.specs.Datagram.{Board, board, After, unchanged, obeyedBy, received, lent}
 use Rattle.reg_image.specs.Image.{registersOf}
 use Rattle.reg_range.specs.Range.{stands}
 use Rattle.cmd_turns.specs.declared.Obeyed.{Obeyed}

@@ -1,3 +1,4 @@
 pub mod Taking
 pub mod Modes
 pub mod Answering
+pub mod Carrying

@@ -6,41 +6,19 @@ use mathlib.Core.List.{List}
 use lib.Dec.{leb}
 use Rattle.wire.specs.Frame.{commandAt}
 use Rattle.wire.specs.declared.Command.{Command}
-use Rattle.status.specs.Status.{isDone}
-use Rattle.status.specs.declared.Status.{Status}
-use Rattle.control.specs.Control as control
-use Rattle.board.specs.Step.{stepOnce}
 use Rattle.board.specs.declared.Registers.{Registers}
-use Rattle.storing.specs.Storing.{stored}
-use Rattle.controlling.specs.Controlling.{Both, afterTurn, controlled, judgedControl, obeyedControl}
-use Rattle.commands.specs.Obey.{Outcome, outcome, direct, obeyed}
+use Rattle.rules.specs.Storing.{stored}
+use Rattle.rules.specs.Controlling.{obeyedControl}
+use Rattle.rules.specs.Obey.{Outcome, outcome, direct, obeyed}
 use Rattle.reg_image.specs.Image.{registersOf}
 use Rattle.cmd_turns.specs.Obeys.{Obeys}
 use Rattle.cmd_turns.specs.declared.Obeyed.{Obeyed}
 use Rattle.cmd_control.specs.Stored.{Stores}
-use Rattle.cmd_control.specs.Carried.{Carries}
-use Rattle.cmd_control.proofs.Carrying.{carried}
-use Rattle.machine.specs.Alone.{StepsAlone}
 use Rattle.board_datagrams.specs.Command.{Does}
 
 module _ (c : Command) (l p m : List ℕ) where
   abbrev r : Registers
   r = registersOf l
-
-  -- ---- 130
-  by-130 : (k n : List ℕ) → c .number ≡ 130 → StepsAlone p l m k n → Carries (controlled c p r m) l k n
-  unfolding controlled
-  by-130 k n e s =
-      let q : controlled c p r m ≡ afterTurn (stepOnce p r m) = simp e in
-      subst (λ (x : Both). Carries x l k n) (sym q) (record { makes = s .makes; store = s .store; stays = s .stays })
-
-  sent : c .number ≡ 130 → c .value ≡ control.answer c (r .core .running) p
-  unfolding control.answer
-  sent e = simp e
-
-  pub stepped : (o : Status) (k n : List ℕ) → c .number ≡ 130 → o ≡ judgedControl c r → isDone o ≡ true → StepsAlone p l m k n
-      → Obeys (obeyedControl c p r m) l (record { status = o; value = c .value }) k n
-  stepped o k n e j d s = carried c p l m o (c .value) k n j d (sent e) (by-130 k n e s)
 
   -- ---- every command
   pub by-control : (o : Obeyed) (k n : List ℕ) → leb 128 (c .number) ≡ true → Obeys (obeyedControl c p r m) l o k n → Does (obeyed c r p m) l o k p n

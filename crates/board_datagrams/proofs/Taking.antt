@@ -17,7 +17,7 @@ use Rattle.serial.specs.declared.Taken.the-variants.{NotOurs, Damaged, Whole}
 use Rattle.store.specs.Store.{isProgramStore, isParameterStore}
 use Rattle.sheet.specs.Sheet.{axis, globals, readOnly, rweRows, rwRows, rRows}
 use Rattle.settings.specs.Settings.{bankPlace}
-use Rattle.datagrams.specs.Datagram.{lent}
+use Rattle.rules.specs.Datagram.{lent}
 use Rattle.board_datagrams.specs.Command.{Ready}
 
 pub module-place : bankPlace 0 66 ≡ 43

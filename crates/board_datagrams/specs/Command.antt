@@ -7,7 +7,7 @@ use lib.ListN.{length}
 use Rattle.wire.specs.Frame.{commandAt}
 use Rattle.wire.specs.declared.Command.{Command}
 use Rattle.store.specs.Store.{isParameterStore}
-use Rattle.commands.specs.Obey.{Outcome}
+use Rattle.rules.specs.Obey.{Outcome}
 use Rattle.reg_image.specs.Image.{registersOf, shaped}
 use Rattle.cmd_turns.specs.declared.Obeyed.{Obeyed}
 

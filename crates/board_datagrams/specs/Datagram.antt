@@ -9,7 +9,7 @@ use Rattle.status.specs.Status.{numberOf}
 use Rattle.status.specs.declared.Status.the-variants.{Checksum}
 use Rattle.serial.specs.Serial.{takenOf}
 use Rattle.replying.specs.Reply.{byteOf, addresses, replied}
-use Rattle.datagrams.specs.Datagram.{After, board, unchanged, received, lent}
+use Rattle.rules.specs.Datagram.{After, board, unchanged, received, lent}
 use Rattle.reg_image.specs.Image.{registersOf, shaped}
 use Rattle.reg_range.specs.Range.{stands}
 

@@ -3,11 +3,13 @@ ghost use mathlib.Core.Path.{_≡_};
 ghost use Rattle.words.specs.Bytes.{fourOf};
 ghost use Rattle.values.specs.Values.{valueAt};
 ghost use Rattle.replying.specs.Reply as replies;
+ghost use Rattle.rules.specs.Datagram as datagrams;
 ghost use Rattle.reg_image.specs.Image.{registersOf};
 ghost use Rattle.board_datagrams.specs.Datagram.{Answers};
 use reg_image::REGISTERS;
 use replying::Addresses;
 
+mod controls;
 mod obeying;
 mod receiving;
 
@@ -40,6 +42,19 @@ pub(crate) fn addresses(image: &[u32; REGISTERS]) -> Addresses
     }
 }
 
+// Whether the lent memory has its three lengths.
+fn lent(program: &[u8], store: &[u8], reply: &[u8]) -> bool
+    ensures { λ r. ⌜ r ≡ datagrams.lent (now (program .entry)) (now (store .entry)) (now (reply .entry)) ⌝ }
+{
+    if !store::is_program_store(program) {
+        return false;
+    }
+    if !store::is_parameter_store(store) {
+        return false;
+    }
+    reply.len() == 9
+}
+
 // A datagram of any bytes: the reply's status, 0 where there is no reply by length or address, 20 or 23.
 pub fn datagram(
     image: &mut [u32; REGISTERS],
@@ -50,7 +65,7 @@ pub fn datagram(
 ) -> u8
     ensures { λ r. ⌜ Answers (now (bytes .entry)) (now (image .entry)) (now (program .entry)) (now (cells .entry)) (now (reply .entry)) r (now (image .exit)) (now (program .exit)) (now (cells .exit)) (now (reply .exit)) ⌝ }
 {
-    if !datagrams::lent(program, cells, reply) {
+    if !lent(program, cells, reply) {
         return 20;
     }
     if !reg_range::in_range(image) {

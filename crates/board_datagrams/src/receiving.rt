@@ -3,7 +3,7 @@ ghost use Prim.Native.Nat.{ℕ};
 ghost use mathlib.Core.Bool.{true};
 ghost use mathlib.Core.Path.{_≡_};
 ghost use Rattle.serial.specs.Serial.{takenOf};
-ghost use Rattle.datagrams.specs.Datagram.{lent, board, obeyedBy, received};
+ghost use Rattle.rules.specs.Datagram.{lent, board, obeyedBy, received};
 ghost use Rattle.reg_image.specs.Image.{registersOf};
 ghost use Rattle.board_datagrams.specs.Command.{Ready};
 ghost use Rattle.board_datagrams.specs.Datagram.{Gives};

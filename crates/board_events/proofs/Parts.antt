@@ -15,7 +15,7 @@ use Rattle.flags.specs.Flags.{raised, raisedFlag}
 use Rattle.pins.specs.Pins.{bitOf, digitalOf, analogOf, alarmsOf}
 use Rattle.pins.specs.declared.Inputs.{Inputs}
 use Rattle.pins.specs.declared.Signals.{Signals}
-use Rattle.events.specs.Events.{withTick}
+use Rattle.rules.specs.Events.{withTick}
 use Rattle.board.specs.declared.Registers.{Registers}
 use Rattle.reg_image.specs.With.{inCore, withCount, withEal, withEdv, withEpo, withDigital, withAnalog}
 use Rattle.reg_image.specs.Rows.{setDigital, setAnalog}

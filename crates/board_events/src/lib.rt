@@ -3,7 +3,7 @@
 // Each answers document 01's number. An event that does not answer 100 leaves the image as it was; one
 // that does writes what it changes, at its places, and nothing else.
 ghost use mathlib.Core.Path.{_≡_};
-ghost use Rattle.events.specs.Events.{withTick, withSample};
+ghost use Rattle.rules.specs.Events.{withTick, withSample};
 ghost use Rattle.reg_image.specs.Image.{registersOf, Leaves};
 ghost use Rattle.board_events.specs.Standing.{Told};
 ghost use Rattle.board_events.specs.Events as spec;
@@ -23,8 +23,7 @@ pub fn new_cells(cells: &mut [u8]) -> u8
     if !store::is_parameter_store(cells) {
         return 20;
     }
-    let mut values = [0i32; 103];
-    resetting::reset(&mut values, cells);
+    resetting::reset_cells(cells);
     100
 }
 

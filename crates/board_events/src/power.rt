@@ -54,13 +54,21 @@ fn fill_parameters(image: &mut [u32; REGISTERS], cells: &[u8])
     fill_four(image, cells, 44);
 }
 
-// The other user variables. Their row is one, so that the compiler takes each cell as it is.
+// A user variable takes what its cell has, whatever that is.
+fn fill_variable(image: &mut [u32; REGISTERS], cells: &[u8], place: usize)
+    requires { ⌜ (47 ≤ place) × (place < 103) ⌝ }
+    ensures { λ _. ⌜ Fills (now (cells .entry)) place (place + 1) (now (image .entry)) (now (image .exit)) ⌝ }
+{
+    reg_image::set_value(image, place, store::cell_at(cells, place - 12));
+}
+
+// The other user variables.
 fn fill_user(image: &mut [u32; REGISTERS], cells: &[u8])
     ensures { λ _. ⌜ Fills (now (cells .entry)) 48 103 (now (image .entry)) (now (image .exit)) ⌝ }
 {
     let mut place = 48;
     while place < 103 {
-        fill(image, cells, place);
+        fill_variable(image, cells, place);
         place += 1;
     }
 }

@@ -5,8 +5,8 @@ use mathlib.Core.Bool.{Bool, true, false, _&&_}
 use mathlib.Core.List.{List}
 use lib.Dec.{leb}
 use Rattle.words.proofs.Bools.{is-T}
-use Rattle.board.specs.Step.{steps}
-use Rattle.runs.specs.Run.{Answer, afterSteps}
+use Rattle.rules.specs.Steps.{steps}
+use Rattle.rules.specs.RunEvent.{Answer, afterSteps}
 use Rattle.reg_image.specs.Image.{registersOf}
 use Rattle.reg_range.specs.Range.{stands}
 use Rattle.board_runs.specs.declared.Ran.{Ran}

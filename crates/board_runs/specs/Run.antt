@@ -7,8 +7,8 @@ use lib.Dec.{leb}
 use Rattle.words.specs.Word.{pick}
 use Rattle.store.specs.Store.{isProgramStore, isParameterStore}
 use Rattle.board.specs.declared.Registers.{Registers}
-use Rattle.board.specs.Step.{steps}
-use Rattle.runs.specs.Run.{Answer, afterSteps}
+use Rattle.rules.specs.Steps.{steps}
+use Rattle.rules.specs.RunEvent.{Answer, afterSteps}
 use Rattle.reg_image.specs.Image.{registersOf, shaped}
 use Rattle.reg_range.specs.Range.{stands}
 use Rattle.board_runs.specs.declared.Ran.{Ran}

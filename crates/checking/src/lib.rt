@@ -1,6 +1,6 @@
 // The program check: a stored program passes exactly when no bad point is reachable from address 0.
 ghost use mathlib.Core.Path.{_≡_};
-ghost use Rattle.checking.specs.Check.{Checked, answerOf};
+ghost use Rattle.checking.specs.Check.{Right, answerOf};
 ghost use Rattle.checking.specs.Laws.{Laws};
 use points::Point;
 use status::Status;
@@ -45,7 +45,7 @@ impl Verdict {
 
 // Checks a program along every path.
 pub fn check(program: &[u8]) -> Verdict
-    ensures { λ r. ⌜ Checked (now (program .entry)) r (answerOf r) ⌝ }
+    ensures { λ r. ⌜ Right (now (program .entry)) r ⌝ }
 {
     if !store::is_program_store(program) {
         return Verdict::Length;

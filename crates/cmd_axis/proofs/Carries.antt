@@ -14,18 +14,17 @@ use Rattle.sheet.specs.Places.{axisPlace}
 use Rattle.settings.specs.Settings.{isGlobal, settable, locked}
 use Rattle.settings.proofs.Counts.{axis-rows}
 use Rattle.fields.specs.Fields.{byBytes, writable}
-use Rattle.assigning.specs.Assigning.{assign, take, keep}
+use Rattle.rules.specs.Assigning.{assign, take, keep}
 use Rattle.status.specs.Status.{isDone, isUnknown}
 use Rattle.status.specs.declared.Status.{Status}
 use Rattle.status.specs.declared.Status.the-variants.{Value, Locked}
 use Rattle.judge.specs.Judge.{judged, isFlow, isReading}
 use Rattle.registers.specs.declared.Order.the-variants.{Velocity}
-use Rattle.motion.specs.Motion.{parameter, withinLimit, rightWithin, leftWithin, isWord, moveBy, moveTo}
-use Rattle.reading.specs.Reading.{read}
-use Rattle.effects.specs.Effects.{applied}
-use Rattle.effects.specs.declared.Effect.{Effect}
-use Rattle.effects.specs.declared.Effect.the-variants as effect
-use Rattle.deciding.specs.Deciding.{decided, worked}
+use Rattle.rules.specs.Motion.{parameter, withinLimit, rightWithin, leftWithin, isWord, moveBy, moveTo}
+use Rattle.rules.specs.Reading.{read}
+use Rattle.rules.specs.Effects.{applied, Effect}
+use Rattle.rules.specs.Effects as effect
+use Rattle.rules.specs.Deciding.{decided, worked}
 use Rattle.board.specs.declared.Registers.{Registers}
 use Rattle.cmd_turns.specs.Turn.{Turn, work, through, turned}
 use Rattle.cmd_turns.specs.declared.Deed.the-variants.{Refused, Number, Order, Move, Set}

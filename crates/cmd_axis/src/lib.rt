@@ -1,5 +1,5 @@
 // What the commands on the axis decide, once their fields are judged.
-ghost use Prim.Native.Nat.{_<_};
+ghost use Prim.Native.Nat.{_<_, _≤_};
 ghost use mathlib.Core.Path.{_≡_};
 ghost use lib.Dec.{eqb};
 ghost use lib.IntN.{negℤ, _+ℤ_};
@@ -7,7 +7,7 @@ ghost use Rattle.words.specs.Word.{pick, word};
 ghost use Rattle.status.specs.declared.Status.the-variants.{Value};
 ghost use Rattle.settings.specs.Settings.{locked};
 ghost use Rattle.registers.specs.declared.Order.the-variants.{Velocity};
-ghost use Rattle.motion.specs.Motion.{withinLimit, isWord};
+ghost use Rattle.rules.specs.Motion.{withinLimit, isWord};
 ghost use Rattle.board.specs.declared.Registers.{Registers};
 ghost use Rattle.reg_image.specs.Image.{registersOf};
 ghost use Rattle.cmd_turns.specs.declared.Deed.the-variants as deed;
@@ -29,9 +29,9 @@ const ACTUAL: usize = 9;
 // The place of global 73.
 const LOCK: usize = 44;
 
-// A place or a cell as a byte: there are none past 102.
+// A place or a cell as a byte, 0 from 256 on: there are none past 102.
 pub fn narrow(place: usize) -> u8
-    ensures { λ r. ⌜ (place < 256 → r ≡ place) ⌝ }
+    ensures { λ r. ⌜ (place < 256 → r ≡ place) × (256 ≤ place → r ≡ 0) ⌝ }
 {
     if place < 256 { place as u8 } else { 0 }
 }

@@ -1,3 +1,2 @@
 pub mod Defaulting
 pub mod Storing
-pub mod Carrying

@@ -11,8 +11,8 @@ use Rattle.settings.specs.Settings.{locked}
 use Rattle.status.specs.declared.Status.{Status}
 use Rattle.status.specs.declared.Status.the-variants.{Stored, Unknown, Value, Locked}
 use Rattle.board.specs.declared.Registers.{Registers}
-use Rattle.outcomes.specs.Outcome.{done, refused}
-use Rattle.storing.specs.Storing.{Kept, kept, stored}
+use Rattle.rules.specs.Outcome.{done, refused}
+use Rattle.rules.specs.Storing.{Kept, kept, stored}
 use Rattle.reg_image.specs.With.{writingAt}
 use Rattle.reg_image.specs.Image.{registersOf, Leaves}
 use Rattle.cmd_turns.specs.declared.Obeyed.{Obeyed}

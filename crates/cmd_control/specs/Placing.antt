@@ -6,7 +6,7 @@ use Rattle.stack.specs.Stack.{emptied}
 use Rattle.waits.specs.Waits.{droppedWait}
 use Rattle.registers.specs.Registers.{withWait, withRunning, withDepth, moved}
 use Rattle.registers.specs.declared.Core.{Core}
-use Rattle.control.specs.Control as control
+use Rattle.rules.specs.Control as control
 use Rattle.board.specs.declared.Registers.{Registers}
 use Rattle.reg_image.specs.With.{inCore, withEntries, withDownload, downloading}
 

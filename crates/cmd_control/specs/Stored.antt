@@ -6,7 +6,7 @@ use mathlib.Core.List.{List}
 use lib.IntN.{pos}
 use Rattle.words.specs.Word.{word}
 use Rattle.status.specs.declared.Status.{Status}
-use Rattle.storing.specs.Storing.{Kept}
+use Rattle.rules.specs.Storing.{Kept}
 use Rattle.reg_image.specs.Image.{registersOf, shaped}
 use Rattle.cmd_turns.specs.declared.Obeyed.{Obeyed}
 

@@ -1,7 +1,7 @@
 // 128, 129, 131, 132 and 133, each a few places written.
 ghost use mathlib.Core.Bool.{true, false};
 ghost use Rattle.registers.specs.Registers.{stopped};
-ghost use Rattle.controlling.specs.Controlling.{placed};
+ghost use Rattle.rules.specs.Controlling.{placed};
 ghost use Rattle.reg_image.specs.With as with;
 ghost use Rattle.reg_image.specs.With.{inCore};
 ghost use Rattle.reg_image.specs.Image.{Leaves};

@@ -1,5 +1,5 @@
 // Download mode: a command is stored as a record of the program.
-ghost use Rattle.storing.specs.Storing.{stored};
+ghost use Rattle.rules.specs.Storing.{stored};
 ghost use Rattle.reg_image.specs.Image.{registersOf};
 ghost use mathlib.Core.Path.{_≡_};
 ghost use Rattle.cmd_control.specs.Stored.{Stores};

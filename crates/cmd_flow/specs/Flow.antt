@@ -6,8 +6,7 @@ use mathlib.Core.List.{List}
 use Rattle.words.specs.declared.Word.{Word}
 use Rattle.wire.specs.declared.Command.{Command}
 use Rattle.waits.specs.declared.Wait.{Wait}
-use Rattle.waiting.specs.Waiting.{tested}
-use Rattle.waiting.specs.declared.Waited.the-variants.{Holding}
+use Rattle.waiting.specs.Waiting.{tested, Holding}
 use Rattle.registers.specs.Registers.{nextAddress}
 use Rattle.board.specs.declared.Registers.{Registers}
 use Rattle.cmd_turns.specs.declared.Deed.{Deed}

@@ -7,34 +7,30 @@ use mathlib.Core.List.{List, _++_}
 use borrow.Author.Tests.{ltb-true, eq-eqb, ne-eqb, le-leb, le-ltb}
 use lib.Dec.{eqb, ltb}
 use lib.IntN.{ℤ, pos}
-use lib.ListN.{getD, replicate}
-use lib.Seq.{getD-append-add}
+use lib.ListN.{getD}
 use mir.Syntax.{w32}
 use mir.Val.{SFits}
 use Rattle.words.specs.Word.{pick, word}
 use Rattle.words.specs.declared.Word.{Word}
-use Rattle.words.proofs.Lists.{all-same}
 use Rattle.order.specs.Order.{sameW}
-use Rattle.rows.specs.Row.{taken}
 use Rattle.sheet.specs.Sheet.{axis, globals, readOnly, rweRows, rwRows, rRows, userRow}
-use Rattle.sheet.specs.Rows.{parameters, rows, rowAt, cellOf}
+use Rattle.sheet.specs.Rows.{parameters, rows, rowAt}
 use Rattle.sheet.specs.Places.{globalIn}
-use Rattle.sheet.proofs.Cells.{user-cell}
 use Rattle.sheet.proofs.Rules.{user-variable}
-use Rattle.store.specs.Store.{cellAt}
-use Rattle.values.specs.Values.{valueAt, poweredAt}
+use Rattle.values.specs.Values.{valueAt}
 use Rattle.settings.specs.Settings.{bankPlace, settable, kept, isGlobal, guarded, locked}
 use Rattle.settings.proofs.Counts.{axis-rows, parameter-rows, global-rows, place-low}
 use Rattle.status.specs.declared.Status.the-variants.{Locked}
 use Rattle.fields.specs.Fields.{takes}
 use Rattle.registers.specs.declared.Core.{Core}
-use Rattle.reading.specs.Reading.{number, bit, global, digitalAt, analogAt, outputAt, port}
-use Rattle.assigning.specs.Assigning.{assign}
-use Rattle.effects.specs.declared.Effect.the-variants as effect
+use Rattle.rules.specs.Reading.{number, bit, global, digitalAt, analogAt, outputAt, port}
+use Rattle.rules.specs.Assigning.{assign}
+use Rattle.rules.specs.Effects as effect
 use Rattle.board.specs.declared.Registers.{Registers}
 use Rattle.cmd_turns.specs.declared.Deed.{Deed}
 use Rattle.cmd_turns.specs.declared.Deed.the-variants.{Refused, Set, Global}
 use Rattle.cmd_turns.specs.Deed.{doing}
+use Rattle.rules.proofs.Users.{user-row}
 use Rattle.cmd_axis.proofs.Carries.{carried}
 use Rattle.cmd_axis.proofs.Rows.{position-place, lock-place}
 
@@ -65,13 +61,6 @@ unfolding takes
 takes-global bank n e h = ltb-true (globalIn n) 4 (rw (ne-eqb bank 2 e) at h)
 
 -- ---- user variables
-pub user-row : (n : ℕ) → rowAt rows (47 + n) ≡ userRow
-unfolding rows
-user-row n =
-    ap (λ (k : ℕ). getD (parameters ++ replicate 56 userRow) (k + n) userRow) (sym parameter-rows)
-    ∙ getD-append-add parameters (replicate 56 userRow) n userRow
-    ∙ all-same userRow 56 n
-
 pub user-settable : (n : ℕ) (z : ℤ) → SFits w32 z → settable (47 + n) z ≡ true
 unfolding settable
 user-settable n z f = simp (lock-place, ne-eqb (47 + n) 44 (λ e. omega (arith, e)), user-row n, user-variable z f)
@@ -87,15 +76,6 @@ user-assigned n w values =
       le-leb 43 (47 + n) (omega arith),
       le-ltb (47 + n) 47 (omega arith),
     )
-
-pub cell-of-user : (n : ℕ) → n < 56 → 35 + n ≡ cellOf rows (47 + n)
-cell-of-user n h = let e : 35 + n ≡ 47 + n - 12 = omega arith in e ∙ user-cell (47 + n) (omega arith) (omega arith)
-
--- a user variable takes what its cell has
-pub user-powered : (m : List ℕ) (n : ℕ) → n < 56 → SFits w32 (cellAt m (35 + n) .v) → cellAt m (35 + n) ≡ poweredAt rows m (47 + n)
-unfolding poweredAt taken
-user-powered m n h f =
-    simp (user-row n, ← cell-of-user n h, user-variable (cellAt m (35 + n) .v) f)
 
 -- ---- globals: what the lock keeps; the others, unless it guards them
 abbrev pub lockWord : Word → Word

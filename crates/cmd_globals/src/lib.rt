@@ -7,7 +7,7 @@ ghost use Rattle.words.specs.Word.{pick, word};
 ghost use Rattle.order.specs.Order.{sameW};
 ghost use Rattle.status.specs.declared.Status.the-variants.{Locked};
 ghost use Rattle.settings.specs.Settings.{bankPlace, locked};
-ghost use Rattle.reading.specs.Reading as reads;
+ghost use Rattle.rules.specs.Reading as reads;
 ghost use Rattle.board.specs.declared.Registers.{Registers};
 ghost use Rattle.reg_image.specs.With.{withAddress};
 ghost use Rattle.reg_image.specs.Image.{registersOf};
@@ -114,7 +114,7 @@ fn global_word(bank: u8, number: u8, address: u32, image: &[u32; REGISTERS]) -> 
         return reg_image::value(image, settings::bank_place(2, number));
     }
     if number == 128 {
-        return reading::bit(reg_image::running(image));
+        return cmd_turns::bit(reg_image::running(image));
     }
     if number == 130 {
         return words::of_bits(address);

@@ -4,8 +4,8 @@ use Prim.Native.Nat.{ℕ}
 use mathlib.Core.List.{List}
 use Rattle.dividing.specs.Divide.{answerOf}
 use Rattle.dividing.specs.declared.Divided.{Divided}
-use Rattle.numbers.specs.Numbers.{intoAccumulator}
-use Rattle.effects.specs.Effects.{applied}
+use Rattle.rules.specs.Numbers.{intoAccumulator}
+use Rattle.rules.specs.Effects.{applied}
 use Rattle.board.specs.declared.Registers.{Registers}
 use Rattle.cmd_turns.specs.declared.Deed.{Deed}
 use Rattle.cmd_turns.specs.Turn.{work}

@@ -12,23 +12,20 @@ use Rattle.status.specs.declared.Status.{Status}
 use Rattle.status.specs.declared.Status.the-variants.{Done}
 use Rattle.jumping.specs.Jump.{jumps, addressOf}
 use Rattle.registers.specs.Registers.{next, nextAddress}
-use Rattle.waiting.specs.Waiting.{waited}
-use Rattle.waiting.specs.declared.Waited.{Waited}
-use Rattle.waiting.specs.declared.Waited.the-variants.{Refused, Passed, TimedOut, Holding}
-use Rattle.flow.specs.Flow as flow
+use Rattle.waiting.specs.Waiting.{waited, Waited, Refused, Passed, TimedOut, Holding}
+use Rattle.rules.specs.Flow as flow
 use Rattle.judge.specs.Judge.{judged, isFlow, isReading}
-use Rattle.stepping.specs.Step as stepping
-use Rattle.board.specs.Step as board
+use Rattle.rules.specs.Step as stepping
+use Rattle.rules.specs.Steps as board
 use Rattle.board.specs.declared.Registers.{Registers}
 use Rattle.status.specs.declared.Status.the-variants as status
-use Rattle.reading.specs.Reading.{read}
-use Rattle.effects.specs.Effects.{applied}
-use Rattle.effects.specs.declared.Effect.{Effect}
-use Rattle.effects.specs.declared.Effect.the-variants as effect
-use Rattle.deciding.specs.Deciding.{decided, worked}
-use Rattle.directing.specs.Direct.{Direct, direct, answered, answer, afterWork, directed}
-use Rattle.directing.specs.Direct as directing
-use Rattle.outcomes.specs.Outcome.{Changed, changed, done, refused}
+use Rattle.rules.specs.Reading.{read}
+use Rattle.rules.specs.Effects.{applied, Effect}
+use Rattle.rules.specs.Effects as effect
+use Rattle.rules.specs.Deciding.{decided, worked}
+use Rattle.rules.specs.Direct.{Direct, direct, answered, answer, afterWork, directed}
+use Rattle.rules.specs.Direct as directing
+use Rattle.rules.specs.Outcome.{Changed, changed, done, refused}
 use Rattle.reg_image.specs.With.{inCore, withAddress}
 use Rattle.cmd_turns.specs.declared.Left.the-variants.{Stops}
 use Rattle.cmd_turns.specs.Turn as turns

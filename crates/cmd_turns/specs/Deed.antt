@@ -13,7 +13,7 @@ use Rattle.registers.specs.Registers.{withNumbers, withLast, withFlags, withWai
 use Rattle.registers.specs.declared.Core.{Core}
 use Rattle.registers.specs.declared.Order.the-variants.{Position}
 use Rattle.status.specs.declared.Status.the-variants.{Unknown}
-use Rattle.numbers.specs.Numbers.{cleared}
+use Rattle.rules.specs.Numbers.{cleared}
 use Rattle.waiting.specs.Waiting.{armedWith}
 use Rattle.board.specs.declared.Registers.{Registers}
 use Rattle.reg_image.specs.With.{inCore, withAccumulator, withAddress, withEto, ordered}

@@ -12,10 +12,10 @@ use Rattle.status.specs.declared.Status.the-variants.{Unavailable}
 use Rattle.registers.specs.Registers.{stopped}
 use Rattle.registers.specs.declared.Core.{Core}
 use Rattle.judge.specs.Judge.{isFlow, isReading}
-use Rattle.directing.specs.Direct.{answer}
+use Rattle.rules.specs.Direct.{answer}
 use Rattle.board.specs.declared.Registers.{Registers}
-use Rattle.board.specs.Step as steps
-use Rattle.outcomes.specs.Outcome.{Changed, changed, done, refused}
+use Rattle.rules.specs.Steps as steps
+use Rattle.rules.specs.Outcome.{Changed, changed, done, refused}
 use Rattle.reg_image.specs.With.{inCore, withAccumulator, withAddress}
 use Rattle.cmd_turns.specs.declared.Left.{Left}
 use Rattle.cmd_turns.specs.declared.Left.the-variants.{Goes, Holds, Stops}

@@ -17,13 +17,11 @@ use Rattle.registers.specs.Registers.{withWait, withDepth, nextAddress}
 use Rattle.stack.specs.Stack.{pushed, popped}
 use Rattle.stack.specs.declared.Stack.{Stack}
 use Rattle.jumping.specs.Jump.{jumps, addressOf}
-use Rattle.waiting.specs.Waiting.{waited}
-use Rattle.waiting.specs.declared.Waited.{Waited}
-use Rattle.waiting.specs.declared.Waited.the-variants.{Refused, Passed, TimedOut, Holding}
+use Rattle.waiting.specs.Waiting.{waited, Waited, Refused, Passed, TimedOut, Holding}
 use Rattle.judge.specs.Judge.{judged, isFlow, isReading}
-use Rattle.reading.specs.Reading.{read}
-use Rattle.effects.specs.Effects.{Work}
-use Rattle.deciding.specs.Deciding.{worked}
+use Rattle.rules.specs.Reading.{read}
+use Rattle.rules.specs.Effects.{Work}
+use Rattle.rules.specs.Deciding.{worked}
 use Rattle.board.specs.declared.Registers.{Registers}
 use Rattle.reg_image.specs.With.{inCore, withAccumulator, withAddress, withEto, withEntries}
 use Rattle.reg_image.specs.Rows.{emptyStack}

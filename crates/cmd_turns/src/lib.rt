@@ -1,4 +1,6 @@
 // What a command does, decided first and then carried out in place, beneath runs, 130 and direct mode.
+ghost use mathlib.Core.Path.{_≡_};
+ghost use Rattle.rules.specs.Reading as reading;
 use order::Compared;
 use registers::Order;
 use status::Status;
@@ -50,4 +52,11 @@ pub enum Deed {
 pub struct Obeyed {
     pub status: Status,
     pub value: Word,
+}
+
+// What is read of something that is on or not: 1 or 0.
+pub fn bit(on: bool) -> Word
+    ensures { λ r. ⌜ r ≡ reading.bit on ⌝ }
+{
+    if on { Word { v: 1 } } else { Word { v: 0 } }
 }

@@ -6,7 +6,7 @@
 // stands in the image by its bits, so C may read it as signed.
 ghost use mathlib.Core.Path.{_≡_};
 ghost use Rattle.board.specs.Registers.{powered};
-ghost use Rattle.events.specs.Events.{withTick, withSample};
+ghost use Rattle.rules.specs.Events.{withTick, withSample};
 ghost use Rattle.reg_image.specs.Image.{registersOf};
 ghost use Rattle.board_events.specs.Standing.{Told};
 ghost use Rattle.board_events.specs.Events as events;

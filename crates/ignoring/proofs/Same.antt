@@ -14,22 +14,21 @@ use Rattle.registers.specs.declared.Core.{Core}
 use Rattle.registers.specs.declared.Download.{Download}
 use Rattle.settings.specs.Settings.{locked}
 use Rattle.calculating.specs.Calculate.{calculated}
-use Rattle.numbers.specs.Numbers as numbers
+use Rattle.rules.specs.Numbers as numbers
 use Rattle.status.specs.Status.{inOrder, isDone}
 use Rattle.status.specs.declared.Status.the-variants.{Done}
 use Rattle.fields.specs.Fields as fields
 use Rattle.judge.specs.Judge.{judged, isFlow, isReading}
-use Rattle.flow.specs.Flow.{Flow, waitedStep, flowed}
-use Rattle.reading.specs.Reading.{read}
-use Rattle.effects.specs.Effects.{Work, applied}
-use Rattle.effects.specs.declared.Effect.{Effect}
-use Rattle.deciding.specs.Deciding.{decidedBy, decided, worked}
-use Rattle.stepping.specs.Step.{State, Pins, after, only, afterFlow, afterWork, carried, obeyed}
-use Rattle.directing.specs.Direct as directing
-use Rattle.directing.specs.Direct.{directed, changed}
-use Rattle.control.specs.Control as control
+use Rattle.rules.specs.Flow.{Flow, waitedStep, flowed}
+use Rattle.rules.specs.Reading.{read}
+use Rattle.rules.specs.Effects.{Work, applied, Effect}
+use Rattle.rules.specs.Deciding.{decidedBy, decided, worked}
+use Rattle.rules.specs.Step.{State, Pins, after, only, afterFlow, afterWork, carried, obeyed}
+use Rattle.rules.specs.Direct as directing
+use Rattle.rules.specs.Direct.{directed, changed}
+use Rattle.rules.specs.Control as control
 use Rattle.board.specs.declared.Registers.{Registers}
-use Rattle.controlling.specs.Controlling as controlling
+use Rattle.rules.specs.Controlling as controlling
 use Rattle.ignoring.specs.Unused.{noType, noMotor, noValue, noControlType, noControlValue, usedType, usedMotor, usedValue, plain, plainControl, answers, controlAnswers}
 use Rattle.ignoring.specs.Laws.{unanswered, silent, Laws}
 

@@ -9,11 +9,11 @@ use Rattle.words.specs.Word.{word}
 use Rattle.wire.specs.declared.Command.{Command}
 use Rattle.registers.specs.declared.Core.{Core}
 use Rattle.judge.specs.Judge.{judged}
-use Rattle.stepping.specs.Step.{State, Pins, obeyed}
-use Rattle.directing.specs.Direct.{Direct, direct, answered, directed}
+use Rattle.rules.specs.Step.{State, Pins, obeyed}
+use Rattle.rules.specs.Direct.{Direct, direct, answered, directed}
 use Rattle.board.specs.declared.Registers.{Registers}
-use Rattle.outcomes.specs.Outcome.{Changed, changed, done}
-use Rattle.controlling.specs.Controlling.{obeyedControl}
+use Rattle.rules.specs.Outcome.{Changed, changed, done}
+use Rattle.rules.specs.Controlling.{obeyedControl}
 use Rattle.ignoring.specs.Unused.{plain, plainControl, answers, controlAnswers}
 
 -- what a direct command leaves and its status, with value 0

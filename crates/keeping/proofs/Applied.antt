@@ -17,10 +17,8 @@ use Rattle.flags.specs.Flags.{flagsInRange}
 use Rattle.registers.specs.declared.Core.{Core}
 use Rattle.sheet.specs.Places.{axisPlace}
 use Rattle.status.specs.Status.{isDone}
-use Rattle.effects.specs.Effects.{Work, setOutput, applied}
-use Rattle.effects.specs.declared.Effect.{Effect}
-use Rattle.effects.specs.declared.Effect.the-variants.{Refused, Turn, Move, Set, Global, Store, Restore, Output, Numbers, Last, Clear}
-use Rattle.stepping.specs.Step.{State, state}
+use Rattle.rules.specs.Effects.{Work, setOutput, applied, Effect, Refused, Turn, Move, Set, Global, Store, Restore, Output, Numbers, Last, Clear}
+use Rattle.rules.specs.Step.{State, state}
 use Rattle.keeping.specs.Sound.{Sound}
 use Rattle.ranges.proofs.Every.{every-set}
 use Rattle.keeping.proofs.Cores.{flags-in-range}

@@ -13,7 +13,7 @@ use Rattle.registers.proofs.Addresses.{next-low}
 use Rattle.flags.specs.Flags.{flagsInRange}
 use Rattle.flags.specs.declared.Flags.{Flags}
 use Rattle.registers.specs.declared.Core.{Core}
-use Rattle.flow.specs.Flow.{timedOut}
+use Rattle.rules.specs.Flow.{timedOut}
 
 pub record Parts (c : Core) : Type 0 where
   pub address : c .address ≤ 1024

@@ -23,18 +23,18 @@ use Rattle.settings.specs.Settings.{bankPlace, settable, kept, isGlobal, locked
 use Rattle.status.specs.Status.{isDone}
 use Rattle.status.specs.declared.Status.the-variants.{Value, Locked}
 use Rattle.status.proofs.Statuses.{all-right}
-use Rattle.effects.specs.declared.Effect.the-variants.{Refused, Move, Set, Global, Store, Numbers}
-use Rattle.motion.specs.Motion.{parameter, withinLimit, turn, rightWithin, leftWithin, isWord, moveBy, moveTo}
-use Rattle.motion.proofs.Limits.{word-fits}
-use Rattle.assigning.specs.Assigning.{shut, assign, take, keep}
+use Rattle.rules.specs.Effects.{Refused, Move, Set, Global, Store, Numbers}
+use Rattle.rules.specs.Motion.{parameter, withinLimit, turn, rightWithin, leftWithin, isWord, moveBy, moveTo}
+use Rattle.rules.proofs.Limits.{word-fits}
+use Rattle.rules.specs.Assigning.{shut, assign, take, keep}
 use Rattle.dividing.specs.Divide.{Answer}
 use Rattle.calculating.specs.Calculate.{calculated}
-use Rattle.numbers.specs.Numbers.{intoAccumulator, calc, calcx, cleared, clear}
+use Rattle.rules.specs.Numbers.{intoAccumulator, calc, calcx, cleared, clear}
 use Rattle.fields.specs.Fields as fields
 use Rattle.judge.specs.Judge as judge
 use Rattle.pins.specs.Pins.{bitOf}
-use Rattle.deciding.specs.Deciding.{decided}
-use Rattle.deciding.proofs.Cases.{by-command}
+use Rattle.rules.specs.Deciding.{decided}
+use Rattle.rules.proofs.DecidingCases.{by-command}
 use Rattle.keeping.proofs.Cores.{parts}
 use Rattle.keeping.proofs.Settings.{position-allowed, kept-allowed, set-allowed, move-allowed}
 use Rattle.keeping.proofs.Applied.{Good}

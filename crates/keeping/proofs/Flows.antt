@@ -23,12 +23,9 @@ use Rattle.stack.specs.Laws as stack-laws
 use Rattle.stack.proofs.Entries as stack-rules
 use Rattle.jumping.specs.Jump.{addressOf}
 use Rattle.jumping.proofs.Addresses.{address-in}
-use Rattle.waiting.specs.Waiting.{waited}
-use Rattle.waiting.specs.declared.Waited.{Waited}
-use Rattle.waiting.specs.declared.Waited.the-variants.{Refused, Passed, TimedOut, Holding}
-use Rattle.flow.specs.Flow.{Flow, flow, refused, jumped, called, returned, halted, timedOut, afterWait, waitedStep, flowed}
-use Rattle.flow.specs.declared.Flowed.{Flowed}
-use Rattle.flow.proofs.Cases.{by-command}
+use Rattle.waiting.specs.Waiting.{waited, Waited, Refused, Passed, TimedOut, Holding}
+use Rattle.rules.specs.Flow.{Flow, flow, refused, jumped, called, returned, halted, timedOut, afterWait, waitedStep, flowed, Flowed}
+use Rattle.rules.proofs.FlowCases.{by-command}
 use Rattle.keeping.proofs.Cores.{whole, parts, moved-in-range, next-in-range, passed-in-range}
 
 -- ---- the call stack

@@ -18,13 +18,12 @@ use Rattle.status.specs.Status.{isDone, isUnknown}
 use Rattle.status.specs.declared.Status.{Status}
 use Rattle.status.specs.declared.Status.the-variants.{Value}
 use Rattle.status.proofs.Statuses.{by-status}
-use Rattle.waiting.specs.Waiting.{happened, notNegative, armedFrom, armedWith, tested, waited}
-use Rattle.waiting.specs.declared.Waited.{Waited}
+use Rattle.waiting.specs.Waiting.{happened, notNegative, armedFrom, armedWith, tested, waited, Waited}
 use Rattle.judge.specs.Judge.{judged, isFlow}
-use Rattle.flow.specs.Flow.{Flow, flow, jumped, called, returned, halted, afterWait, waitedStep, flowed}
-use Rattle.flow.proofs.Cases.{by-command}
-use Rattle.stepping.specs.Step.{State, Pins, After, after, only, carried, obeyed, step}
-use Rattle.stepping.proofs.Cases.{by-carried}
+use Rattle.rules.specs.Flow.{Flow, flow, jumped, called, returned, halted, afterWait, waitedStep, flowed}
+use Rattle.rules.proofs.FlowCases.{by-command}
+use Rattle.rules.specs.Step.{State, Pins, After, after, only, carried, obeyed, step}
+use Rattle.rules.proofs.StepCases.{by-carried}
 use Rattle.keeping.specs.Laws.{isHolding, holds}
 
 -- ---- a WAIT

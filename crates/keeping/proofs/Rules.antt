@@ -21,13 +21,13 @@ use Rattle.status.specs.Status.{isDone}
 use Rattle.status.specs.declared.Status.{Status}
 use Rattle.status.specs.declared.Status.the-variants.{Done, Unavailable}
 use Rattle.judge.specs.Judge.{judged}
-use Rattle.effects.specs.Effects.{Work}
-use Rattle.deciding.specs.Deciding.{decided, worked}
-use Rattle.stepping.specs.Step.{State, Pins, After, only, loaded, step}
-use Rattle.stepping.proofs.Cases.{by-carried, by-obeyed, by-step}
-use Rattle.running.specs.Run.{Progress, advanced, goesOn, run}
-use Rattle.directing.specs.Direct.{Direct, directed}
-use Rattle.directing.proofs.Cases.{by-command}
+use Rattle.rules.specs.Effects.{Work}
+use Rattle.rules.specs.Deciding.{decided, worked}
+use Rattle.rules.specs.Step.{State, Pins, After, only, loaded, step}
+use Rattle.rules.proofs.StepCases.{by-carried, by-obeyed, by-step}
+use Rattle.rules.specs.Run.{Progress, advanced, goesOn, run}
+use Rattle.rules.specs.Direct.{Direct, directed}
+use Rattle.rules.proofs.DirectCases.{by-command}
 use Rattle.keeping.specs.Sound.{Sound}
 use Rattle.keeping.specs.Laws.{Laws, left}
 use Rattle.keeping.proofs.Cores.{next-in-range, stopped-in-range}
@@ -98,7 +98,7 @@ module _ (program : List ℕ) (p : Pins) where
       (λ h. by-carried p x P r
       (record {
         flow = record { core = f .core; entries = f .entries; values = s .values; size = s .size; outputs = s .outputs };
-        reading = λ _. with-core x s (loaded r (x .core) (x .values) (x .outputs) (p .digital) (p .analog) .core) (x .store) (next-in-range (x .core) (s .core));
+        reading = λ _. with-core x s (loaded r (x .core) (x .values) (x .outputs) (p .digital) (p .analog)) (x .store) (next-in-range (x .core) (s .core));
         work = λ _. goes-on (leaves (work r x) (x .entries)) (worked-sound r x h (record-fits program (x .core .address) b) s);
       })))
 

@@ -12,13 +12,11 @@ use Rattle.words.specs.Laws.{AllBytes}
 use Rattle.wire.specs.declared.Command.{Command}
 use Rattle.store.specs.Store.{recordAt}
 use Rattle.status.specs.Status.{isDone}
-use Rattle.waiting.specs.Waiting.{waited}
-use Rattle.waiting.specs.declared.Waited.{Waited}
-use Rattle.waiting.specs.declared.Waited.the-variants.{Refused, Passed, TimedOut, Holding}
+use Rattle.waiting.specs.Waiting.{waited, Waited, Refused, Passed, TimedOut, Holding}
 use Rattle.judge.specs.Judge.{judged}
-use Rattle.stepping.specs.Step.{State, Pins, state, step}
-use Rattle.running.specs.Run.{Progress, run}
-use Rattle.directing.specs.Direct.{Direct, directed}
+use Rattle.rules.specs.Step.{State, Pins, state, step}
+use Rattle.rules.specs.Run.{Progress, run}
+use Rattle.rules.specs.Direct.{Direct, directed}
 use Rattle.keeping.specs.Sound.{Sound}
 
 -- the registers and the store that a direct command leaves, with the call stack, which it does not touch

@@ -6,7 +6,7 @@ use Rattle.sheet.specs.Rows.{parameters}
 use Rattle.values.specs.Values.{valuesInRange}
 use Rattle.ranges.specs.Range.{entriesInRange, bitsInRange}
 use Rattle.registers.specs.Range.{coreInRange}
-use Rattle.stepping.specs.Step.{State}
+use Rattle.rules.specs.Step.{State}
 
 pub record Sound (x : State) : Type 0 where
   pub core : coreInRange (x .core) ≡ true

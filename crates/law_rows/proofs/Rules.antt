@@ -21,14 +21,14 @@ use Rattle.serial.specs.declared.Taken.the-variants.{NotOurs, Damaged, Whole}
 use Rattle.sampling.specs.Sample.{sampleInRange}
 use Rattle.board.specs.Range.{registersInRange}
 use Rattle.board.specs.declared.Registers.{Registers}
-use Rattle.board.specs.Step.{steps}
-use Rattle.commands.specs.Obey.{obeyed}
-use Rattle.events.specs.Events.{withTick, withSample}
-use Rattle.events.specs.Events as events
+use Rattle.rules.specs.Steps.{steps}
+use Rattle.rules.specs.Obey.{obeyed}
+use Rattle.rules.specs.Events.{withTick, withSample}
+use Rattle.rules.specs.Events as events
 use Rattle.replying.specs.Reply.{byteOf}
-use Rattle.datagrams.specs.Datagram.{Board, After, board, unchanged, received, obeyedBy, lent}
-use Rattle.datagrams.specs.Datagram as datagrams
-use Rattle.runs.specs.Run as runs
+use Rattle.rules.specs.Datagram.{Board, After, board, unchanged, received, obeyedBy, lent}
+use Rattle.rules.specs.Datagram as datagrams
+use Rattle.rules.specs.RunEvent as runs
 use Rattle.promises.specs.Laws as event-laws
 use Rattle.promises.specs.Commands.{InRange}
 use Rattle.promises.specs.Commands as command-laws

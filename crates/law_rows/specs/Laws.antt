@@ -6,7 +6,7 @@ use mathlib.Core.List.{List}
 use lib.Dec.{leb}
 use lib.IntN.{ℤ}
 use lib.ListN.{length}
-use Rattle.datagrams.specs.Datagram.{lent}
+use Rattle.rules.specs.Datagram.{lent}
 use Rattle.reg_image.specs.Image.{registersOf, shaped}
 use Rattle.reg_range.specs.Range.{stands}
 use Rattle.board_datagrams.specs.Datagram.{Answers}

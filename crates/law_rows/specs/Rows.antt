@@ -6,7 +6,7 @@ use lib.IntN.{ℤ}
 use lib.ListN.{length, getD}
 use Rattle.words.specs.Laws.{AllBytes}
 use Rattle.board.specs.Registers.{powered}
-use Rattle.events.specs.Events.{withTick, withSample}
+use Rattle.rules.specs.Events.{withTick, withSample}
 use Rattle.reg_image.specs.Image.{registersOf}
 use Rattle.board_events.specs.Standing.{Told}
 use Rattle.board_events.specs.Events.{tickStatus, powerStatus, sampleOf, sampleStatus}

@@ -13,17 +13,16 @@ use Rattle.status.specs.Status.{isDone, isUnknown}
 use Rattle.status.specs.declared.Status.{Status}
 use Rattle.status.specs.declared.Status.the-variants as status
 use Rattle.judge.specs.Judge.{judged, isFlow, isReading}
-use Rattle.reading.specs.Reading.{read, global, port, number}
+use Rattle.rules.specs.Reading.{read, global, port, number}
 use Rattle.values.specs.Values.{valueAt}
 use Rattle.sheet.specs.Places.{axisPlace}
 use Rattle.settings.specs.Settings.{bankPlace}
-use Rattle.effects.specs.Effects.{applied}
-use Rattle.effects.specs.declared.Effect.{Effect}
-use Rattle.effects.specs.declared.Effect.the-variants as effect
-use Rattle.deciding.specs.Deciding.{decided, worked}
-use Rattle.directing.specs.Direct.{answer}
-use Rattle.outcomes.specs.Outcome.{Changed, changed, done, refused}
-use Rattle.commands.specs.Obey as obey
+use Rattle.rules.specs.Effects.{applied, Effect}
+use Rattle.rules.specs.Effects as effect
+use Rattle.rules.specs.Deciding.{decided, worked}
+use Rattle.rules.specs.Direct.{answer}
+use Rattle.rules.specs.Outcome.{Changed, changed, done, refused}
+use Rattle.rules.specs.Obey as obey
 use Rattle.board.specs.declared.Registers.{Registers}
 use Rattle.reg_image.specs.With.{inCore, withAddress, withAccumulator}
 use Rattle.registers.specs.declared.Core.{Core}

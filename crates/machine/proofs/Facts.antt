@@ -18,14 +18,12 @@ use Rattle.status.specs.declared.Status.{Status}
 use Rattle.status.specs.declared.Status.the-variants.{Done}
 use Rattle.fields.specs.Fields as fields
 use Rattle.judge.specs.Judge.{judged, isFlow, isReading}
-use Rattle.waiting.specs.Waiting.{tested, waited, happened, armedFrom, armedWith, notNegative}
-use Rattle.waiting.specs.declared.Waited.{Waited}
-use Rattle.waiting.specs.declared.Waited.the-variants as waits
-use Rattle.reading.specs.Reading.{read, global}
-use Rattle.effects.specs.Effects.{applied}
-use Rattle.effects.specs.declared.Effect.{Effect}
-use Rattle.effects.specs.declared.Effect.the-variants as effect
-use Rattle.deciding.specs.Deciding.{decided, worked}
+use Rattle.waiting.specs.Waiting.{tested, waited, happened, armedFrom, armedWith, notNegative, Waited}
+use Rattle.waiting.specs.Waiting as waits
+use Rattle.rules.specs.Reading.{read, global}
+use Rattle.rules.specs.Effects.{applied, Effect}
+use Rattle.rules.specs.Effects as effect
+use Rattle.rules.specs.Deciding.{decided, worked}
 use Rattle.board.specs.declared.Registers.{Registers}
 use Rattle.reg_image.specs.With.{inCore, withAccumulator}
 use Rattle.cmd_turns.specs.declared.Left.{Left}

@@ -19,11 +19,11 @@ use Rattle.status.specs.declared.Status.{Status}
 use Rattle.status.specs.declared.Status.the-variants.{Done}
 use Rattle.registers.specs.Registers.{withWait, withRunning}
 use Rattle.registers.specs.declared.Core.{Core}
-use Rattle.stepping.specs.Step.{State, Pins, After, after, step}
-use Rattle.running.specs.Run.{Progress, begun, onward, advanced, goesOn, run, Summary, summary}
+use Rattle.rules.specs.Step.{State, Pins, After, after, step}
+use Rattle.rules.specs.Run.{Progress, begun, onward, advanced, goesOn, run, Summary, summary}
 use Rattle.board.specs.declared.Registers.{Registers}
-use Rattle.board.specs.Step as board
-use Rattle.board.specs.Step.{stateOf, pinsOf}
+use Rattle.rules.specs.Steps as board
+use Rattle.rules.specs.Steps.{stateOf, pinsOf}
 use Rattle.reg_image.specs.With.{inCore}
 use Rattle.cmd_turns.specs.declared.Left.{Left}
 use Rattle.cmd_turns.specs.declared.Left.the-variants.{Goes, Holds, Stops}

@@ -14,10 +14,10 @@ use Rattle.status.specs.declared.Status.the-variants.{Done, Unavailable}
 use Rattle.sheet.specs.Places.{globalIn}
 use Rattle.fields.specs.Fields as fields
 use Rattle.judge.specs.Judge.{judged, isFlow, isReading}
-use Rattle.reading.specs.Reading.{read, global}
-use Rattle.directing.specs.Direct.{directed}
-use Rattle.outcomes.specs.Outcome.{Changed, changed, done, refused}
-use Rattle.commands.specs.Obey as obeying
+use Rattle.rules.specs.Reading.{read, global}
+use Rattle.rules.specs.Direct.{directed}
+use Rattle.rules.specs.Outcome.{Changed, changed, done, refused}
+use Rattle.rules.specs.Obey as obeying
 use Rattle.board.specs.declared.Registers.{Registers}
 use Rattle.reg_image.specs.Image.{registersOf}
 use Rattle.cmd_turns.specs.declared.Obeyed.{Obeyed}

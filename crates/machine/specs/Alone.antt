@@ -6,10 +6,11 @@ use mathlib.Core.List.{List}
 use lib.Dec.{eqb, ltb}
 use lib.ListN.{getD}
 use Rattle.words.specs.Word.{pick}
+use Rattle.status.specs.declared.Status.{Status}
 use Rattle.status.specs.declared.Status.the-variants.{Done}
 use Rattle.registers.specs.Registers.{withRunning}
 use Rattle.board.specs.declared.Registers.{Registers}
-use Rattle.board.specs.Step.{stepOnce, steps}
+use Rattle.rules.specs.Steps.{stepOnce, steps}
 use Rattle.reg_image.specs.With.{inCore}
 use Rattle.reg_image.specs.Image.{registersOf, shaped}
 use Rattle.cmd_turns.specs.declared.Left.{Left}
@@ -20,8 +21,14 @@ use Rattle.machine.specs.declared.Gone.{Gone}
 use Rattle.machine.specs.declared.Made.{Made}
 use Rattle.machine.specs.Steps.{Walk}
 
--- one step, as 130 makes it
-pub record StepsAlone (program l m k n : List ℕ) : Type 0 where
+-- ---- nothing changes: what is lent as a program or as a frame has another length
+pub record Stays (l m k n : List ℕ) : Type 0 where
+  pub image : k ≡ l
+  pub store : n ≡ m
+
+-- one step, as 130 makes it, and its status
+pub record StepsAlone (program l m : List ℕ) (s : Status) (k n : List ℕ) : Type 0 where
+  pub status : s ≡ stepOnce program (registersOf l) m .status
   pub makes : registersOf k ≡ stepOnce program (registersOf l) m .registers
   pub store : n ≡ stepOnce program (registersOf l) m .store
   pub stays : shaped l ≡ true → shaped k ≡ true

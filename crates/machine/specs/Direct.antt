@@ -8,7 +8,7 @@ use Rattle.words.specs.Word.{word, pick}
 use Rattle.words.specs.declared.Word.{Word}
 use Rattle.wire.specs.declared.Command.{Command}
 use Rattle.status.specs.declared.Status.{Status}
-use Rattle.commands.specs.Obey as obeying
+use Rattle.rules.specs.Obey as obeying
 use Rattle.reg_image.specs.Image.{registersOf}
 use Rattle.cmd_turns.specs.declared.Obeyed.{Obeyed}
 use Rattle.cmd_turns.specs.Obeys.{Obeys}

@@ -4,7 +4,7 @@
 // in place, in the image and in the lent parameter store.
 ghost use Prim.Native.Nat.{_<_};
 ghost use mathlib.Core.Path.{_≡_};
-ghost use Rattle.numbers.specs.Numbers as numbers;
+ghost use Rattle.rules.specs.Numbers as numbers;
 ghost use Rattle.waiting.specs.Waiting.{armedWith};
 ghost use Rattle.reg_image.specs.With.{inCore};
 ghost use Rattle.cmd_turns.specs.Turn.{dropped};

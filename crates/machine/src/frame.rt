@@ -7,10 +7,12 @@ ghost use lib.Dec.{eqb};
 ghost use lib.ListN.{length};
 ghost use Rattle.wire.specs.Frame.{commandAt};
 ghost use Rattle.judge.specs.Judge.{isFlow};
-ghost use Rattle.directing.specs.Direct as directs;
-ghost use Rattle.commands.specs.Obey as obeying;
+ghost use Rattle.rules.specs.Direct as directs;
+ghost use Rattle.rules.specs.Obey as obeying;
 ghost use Rattle.reg_image.specs.Image.{registersOf};
 ghost use Rattle.cmd_turns.specs.Obeys.{Obeys};
+ghost use Rattle.status.specs.declared.Status.the-variants as status;
+ghost use Rattle.machine.specs.Alone.{Stays};
 ghost use Rattle.machine.specs.Direct as spec;
 use crate::steps::go;
 use cmd_turns::Obeyed;
@@ -89,10 +91,10 @@ fn obey_record(image: &mut [u32; REGISTERS], store: &mut [u8], frame: &[u8], c: 
     }
 }
 
-// A command of direct mode, in a frame of nine bytes. One that only a program has is refused before its
+// A command of direct mode, in a frame of nine bytes; a frame of another length has none. One that only a program has is refused before its
 // fields are looked at.
 pub fn direct(image: &mut [u32; REGISTERS], store: &mut [u8], frame: &[u8]) -> Obeyed
-    ensures { λ r. ⌜ (length (now (frame .entry)) ≡ 9 → Obeys (obeying.direct (commandAt (now (frame .entry)) 1) (registersOf (now (image .entry))) (now (store .entry))) (now (image .entry)) r (now (image .exit)) (now (store .exit))) ⌝ }
+    ensures { λ r. ⌜ (length (now (frame .entry)) ≡ 9 → Obeys (obeying.direct (commandAt (now (frame .entry)) 1) (registersOf (now (image .entry))) (now (store .entry))) (now (image .entry)) r (now (image .exit)) (now (store .exit))) × ((length (now (frame .entry)) ≡ 9 → ⊥) → (r ≡ spec.refused status.Unknown) × Stays (now (image .entry)) (now (store .entry)) (now (image .exit)) (now (store .exit))) ⌝ }
 {
     if frame.len() != 9 {
         return refused(Status::Unknown);

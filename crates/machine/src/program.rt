@@ -75,18 +75,20 @@ fn walk(image: &mut [u32; REGISTERS], store: &mut [u8], program: &[u8], budget: 
     gone
 }
 
-// One step, whether or not the program runs.
-pub fn step_alone(image: &mut [u32; REGISTERS], store: &mut [u8], program: &[u8])
-    ensures { λ _. ⌜ (length (now (program .entry)) ≡ 7168 → spec.StepsAlone (now (program .entry)) (now (image .entry)) (now (store .entry)) (now (image .exit)) (now (store .exit))) ⌝ }
+// One step, whether or not the program runs, and its status. There is none of a program of another length.
+pub fn step_alone(image: &mut [u32; REGISTERS], store: &mut [u8], program: &[u8]) -> Status
+    ensures { λ r. ⌜ (length (now (program .entry)) ≡ 7168 → spec.StepsAlone (now (program .entry)) (now (image .entry)) (now (store .entry)) r (now (image .exit)) (now (store .exit))) × ((length (now (program .entry)) ≡ 7168 → ⊥) → (r ≡ status.Done) × spec.Stays (now (image .entry)) (now (store .entry)) (now (image .exit)) (now (store .exit))) ⌝ }
 {
-    if program.len() == 7168 {
-        walk(image, store, program, 1);
+    if program.len() != 7168 {
+        return Status::Done;
     }
+    let gone = walk(image, store, program, 1);
+    gone.status
 }
 
 // The steps of a run. One that has nothing to do ends before it looks at anything else.
 pub fn run(image: &mut [u32; REGISTERS], store: &mut [u8], program: &[u8], budget: usize) -> Made
-    ensures { λ r. ⌜ (length (now (program .entry)) ≡ 7168 → spec.Runs (now (program .entry)) budget (now (image .entry)) (now (store .entry)) r (now (image .exit)) (now (store .exit))) ⌝ }
+    ensures { λ r. ⌜ (length (now (program .entry)) ≡ 7168 → spec.Runs (now (program .entry)) budget (now (image .entry)) (now (store .entry)) r (now (image .exit)) (now (store .exit))) × ((length (now (program .entry)) ≡ 7168 → ⊥) → (r ≡ spec.noneMade) × spec.Stays (now (image .entry)) (now (store .entry)) (now (image .exit)) (now (store .exit))) ⌝ }
 {
     if program.len() != 7168 {
         return none_made();

@@ -1,11 +1,7 @@
-// The board on the bench: its registers by value, its memory lent, and each of its events with the line
+// The board on the bench: the image of its registers, its memory, and each of its events with the line
 // that tells of it.
-use board::Registers;
-use events::Answer;
-use runs::Ended;
-use sampling::Sample;
+use reg_image::REGISTERS;
 use wire::Command;
-use words::Word;
 
 fn clear(memory: &mut [u8]) {
     let mut i = 0;
@@ -16,12 +12,10 @@ fn clear(memory: &mut [u8]) {
 }
 
 // A board with no program and default cells, powered up.
-pub(crate) fn fresh(registers: Registers, program: &mut [u8], cells: &mut [u8]) -> Registers {
+pub(crate) fn fresh(image: &mut [u32; REGISTERS], program: &mut [u8], cells: &mut [u8]) {
     clear(program);
-    let mut values = [0i32; 103];
-    resetting::reset(&mut values, cells);
-    let after = events::power_up(registers, cells);
-    after.registers
+    board_events::new_cells(cells);
+    board_events::power_up(image, cells);
 }
 
 // A command as the display sends it to address 1, and the line that tells of it begun.
@@ -34,76 +28,33 @@ pub(crate) fn sent(line: &[u8], words_at: usize, command: Command) -> [u8; 9] {
 
 // A datagram, and the reply to it.
 pub(crate) fn tell(
-    registers: Registers,
+    image: &mut [u32; REGISTERS],
     program: &mut [u8],
     cells: &mut [u8],
     reply: &mut [u8; 9],
     frame: &[u8],
-) -> Registers {
-    let answered = datagrams::datagram(registers, program, cells, reply, frame);
-    let after = answered.registers;
-    let answer = answered.answer;
-    crate::print::answer(answer, reply);
-    after
+) {
+    let status = board_datagrams::datagram(image, program, cells, reply, frame);
+    crate::print::answer(status, reply);
 }
 
-// The number of a sample's, a tick's or power-up's answer.
-fn number_of(answer: Answer) -> u8 {
-    match answer {
-        Answer::Done => 100,
-        Answer::Length => 20,
-        Answer::Field => 21,
-        Answer::HandedIn => 23,
-    }
+pub(crate) fn run(image: &mut [u32; REGISTERS], program: &[u8], cells: &mut [u8], budget: usize) {
+    let ran = board_runs::run(image, program, cells, budget);
+    crate::print::ran(ran.steps, ran.status, image);
 }
 
-fn number_of_run(ended: Ended) -> u8 {
-    match ended {
-        Ended::Length => 20,
-        Ended::HandedIn => 23,
-        Ended::Budget => 22,
-        Ended::Last(status) => status.number(),
-    }
-}
-
-pub(crate) fn run(
-    registers: Registers,
-    program: &[u8],
-    cells: &mut [u8],
-    budget: usize,
-) -> Registers {
-    let ran = runs::run(registers, program, cells, budget);
-    let after = ran.registers;
-    let ended = ran.ended;
-    let core = after.core;
-    let values = after.values;
-    crate::print::ran(ran.steps, number_of_run(ended), core, &values);
-    after
-}
-
-pub(crate) fn measure(registers: Registers, sample: Sample) -> Registers {
-    let measured = events::sample(registers, sample);
-    let after = measured.registers;
-    let answer = measured.answer;
-    let values = after.values;
-    let analog = after.analog;
-    crate::print::measured(number_of(answer), &values, Word { v: analog[0] });
-    after
+pub(crate) fn measure(image: &mut [u32; REGISTERS], fields: &[i32; 16]) {
+    let status = board_events::sample(image, fields);
+    crate::print::measured(status, image);
 }
 
 // So many ticks, and the last one's status.
-pub(crate) fn ticks(registers: Registers, count: usize) -> Registers {
-    let mut after = registers;
+pub(crate) fn ticks(image: &mut [u32; REGISTERS], count: usize) {
     let mut status = 100;
     let mut done = 0;
     while done < count {
-        let ticked = events::tick(after);
-        let answer = ticked.answer;
-        status = number_of(answer);
-        after = ticked.registers;
+        status = board_events::tick(image);
         done += 1;
     }
-    let core = after.core;
-    crate::print::ticked(count, status, core.wait);
-    after
+    crate::print::ticked(count, status, image);
 }

@@ -8,8 +8,8 @@ mod bench;
 mod print;
 mod script;
 
-use board::Registers;
 use libc::STDIN_FILENO;
+use reg_image::REGISTERS;
 use script::Line;
 use std::num::wrapping_add_u64;
 
@@ -36,40 +36,37 @@ fn aside(read: Line, program: &[u8], line: &[u8], number: u64) {
     }
 }
 
-// One line, the number it has in the script, and the registers it leaves.
+// One line, and the number it has in the script.
 fn answer(
-    registers: Registers,
+    image: &mut [u32; REGISTERS],
     program: &mut [u8; 7168],
     cells: &mut [u8; 364],
     reply: &mut [u8; 9],
     line: &[u8],
     number: u64,
-) -> Registers {
+) {
     let mut numbers = [0i32; 16];
     let read = script::read(line, &mut numbers);
     match read {
         Line::Heading => {
             print::heading(line);
-            bench::fresh(registers, program, cells)
+            bench::fresh(image, program, cells);
         }
         Line::Tell(words_at) => {
             let frame = bench::sent(line, words_at, script::command_of(&numbers));
-            bench::tell(registers, program, cells, reply, &frame)
+            bench::tell(image, program, cells, reply, &frame);
         }
-        Line::Run => bench::run(registers, program, cells, script::amount_of(&numbers)),
-        Line::Measure => bench::measure(registers, script::sample_of(&numbers)),
-        Line::Ticks => bench::ticks(registers, script::amount_of(&numbers)),
-        _ => {
-            aside(read, program, line, number);
-            registers
-        }
+        Line::Run => bench::run(image, program, cells, script::amount_of(&numbers)),
+        Line::Measure => bench::measure(image, &numbers),
+        Line::Ticks => bench::ticks(image, script::amount_of(&numbers)),
+        _ => aside(read, program, line, number),
     }
 }
 
 // The script, line by line, on one board after the other; a line before the first heading meets one
 // that was never powered.
 fn play(script: &[u8], program: &mut [u8; 7168], cells: &mut [u8; 364], reply: &mut [u8; 9]) {
-    let mut registers = Registers::unpowered();
+    let mut image = [0u32; REGISTERS];
     let mut at = 0;
     let mut number = 0u64;
     while at < script.len() {
@@ -77,7 +74,14 @@ fn play(script: &[u8], program: &mut [u8; 7168], cells: &mut [u8; 364], reply: &
         let end = line_end(script, from);
         at = end + 1;
         number = wrapping_add_u64(number, 1);
-        registers = answer(registers, program, cells, reply, &script[from..end], number);
+        answer(
+            &mut image,
+            program,
+            cells,
+            reply,
+            &script[from..end],
+            number,
+        );
     }
 }
 

@@ -1,14 +1,10 @@
 // The lines of the trace: headings and remarks as the script has them, and what the board answered and
 // did, set in by two spaces.
 use checking::Verdict;
-use datagrams::Answer;
 use display::Received;
-use flags::Flags;
 use libc::STDOUT_FILENO;
-use registers::Core;
-use registers::Motion;
+use reg_image::REGISTERS;
 use registers::Order;
-use waits::Wait;
 use words::Word;
 
 pub(crate) fn text(t: &[u8]) {
@@ -106,13 +102,13 @@ fn received(reply: &[u8; 9]) {
     }
 }
 
-// What a datagram was answered.
-pub(crate) fn answer(answer: Answer, reply: &[u8; 9]) {
-    match answer {
-        Answer::Nothing => text(b", no reply"),
-        Answer::Length => text(b", refused with 20"),
-        Answer::HandedIn => text(b", refused with 23"),
-        Answer::Replied(_) => received(reply),
+// What a datagram was answered, by its status.
+pub(crate) fn answer(status: u8, reply: &[u8; 9]) {
+    match status {
+        0 => text(b", no reply"),
+        20 => text(b", refused with 20"),
+        23 => text(b", refused with 23"),
+        _ => received(reply),
     }
     text(b"\n");
 }
@@ -140,12 +136,12 @@ fn counted(n: u64, name: &[u8]) {
 }
 
 // A wait armed with a value above 0 ends by its count too.
-fn wait(w: Wait) {
-    if !w.armed {
+fn wait(image: &[u32; REGISTERS]) {
+    if !reg_image::armed(image) {
         text(b"no wait");
-    } else if w.timed {
+    } else if reg_image::timed(image) {
         text(b"waits, ");
-        counted(w.count as u64, b" tick");
+        counted(reg_image::count(image) as u64, b" tick");
         text(b" left");
     } else {
         text(b"waits without timeout");
@@ -153,86 +149,89 @@ fn wait(w: Wait) {
 }
 
 // An axis parameter as the board holds it.
-fn parameter(words: &[u8], values: &[i32; 103], number: u8) {
-    labelled_word(words, values::value_at(values, places::axis_place(number)));
+fn parameter(words: &[u8], image: &[u32; REGISTERS], number: u8) {
+    labelled_word(words, reg_image::value(image, places::axis_place(number)));
 }
 
 // The order, with the velocity or the target position, parameter 50.
-fn motion(m: Motion, values: &[i32; 103]) {
-    let order = m.order;
-    match order {
+fn motion(image: &[u32; REGISTERS]) {
+    match reg_image::motion_order(image) {
         Order::Stopped => text(b", order stopped"),
-        Order::Velocity => labelled_word(b", order velocity ", m.velocity),
-        Order::Position => parameter(b", order position ", values, 50),
+        Order::Velocity => labelled_word(b", order velocity ", reg_image::velocity(image)),
+        Order::Position => parameter(b", order position ", image, 50),
     }
 }
 
-fn flag(on: u8, name: &[u8]) {
+fn flag(on: u32, name: &[u8]) {
     if on != 0 {
         text(name);
     }
 }
 
-fn flags(f: Flags) {
-    if f.eto | f.eal | f.edv | f.epo == 0 {
+fn flags(image: &[u32; REGISTERS]) {
+    let eto = reg_image::eto(image);
+    let eal = reg_image::eal(image);
+    let edv = reg_image::edv(image);
+    let epo = reg_image::epo(image);
+    if eto | eal | edv | epo == 0 {
         text(b", no flag");
         return;
     }
     text(b", flags");
-    flag(f.eto, b" ETO");
-    flag(f.eal, b" EAL");
-    flag(f.edv, b" EDV");
-    flag(f.epo, b" EPO");
+    flag(eto, b" ETO");
+    flag(eal, b" EAL");
+    flag(edv, b" EDV");
+    flag(epo, b" EPO");
 }
 
 // Where the program stands.
-fn place(address: u16, running: bool, depth: u8) {
-    labelled(b"; address ", address as u64);
-    if running {
+fn place(image: &[u32; REGISTERS]) {
+    labelled(b"; address ", reg_image::address(image) as u64);
+    if reg_image::running(image) {
         text(b", running");
     } else {
         text(b", stopped");
     }
-    labelled(b", depth ", depth as u64);
+    labelled(b", depth ", reg_image::depth(image) as u64);
 }
 
 // What the program has worked out, what it waits for, and what the motor is ordered to do.
-fn work(core: Core, values: &[i32; 103]) {
-    labelled_word(b", accumulator ", core.accumulator);
-    labelled_word(b", X ", core.x);
+fn work(image: &[u32; REGISTERS]) {
+    labelled_word(b", accumulator ", reg_image::accumulator(image));
+    labelled_word(b", X ", reg_image::x(image));
     text(b", ");
-    wait(core.wait);
-    motion(core.motion, values);
-    flags(core.flags);
+    wait(image);
+    motion(image);
+    flags(image);
     text(b"\n");
 }
 
 // A run of so many steps, the last one's status, and what it left.
-pub(crate) fn ran(steps: usize, status: u8, core: Core, values: &[i32; 103]) {
+pub(crate) fn ran(steps: usize, status: u8, image: &[u32; REGISTERS]) {
     text(b"  run: ");
     counted(steps as u64, b" step");
     labelled(b", status ", status as u64);
-    place(core.address, core.running, core.depth);
-    work(core, values);
+    place(image);
+    work(image);
 }
 
 // A sample's status, and what the board then holds of it.
-pub(crate) fn measured(status: u8, values: &[i32; 103], analog: Word) {
+pub(crate) fn measured(status: u8, image: &[u32; REGISTERS]) {
     labelled(b"  sample: status ", status as u64);
-    parameter(b"; position ", values, 52);
-    parameter(b", reached ", values, 55);
-    labelled_word(b", AIN0 ", analog);
-    parameter(b", switches right ", values, 211);
-    parameter(b", left ", values, 212);
-    parameter(b", home ", values, 213);
+    parameter(b"; position ", image, 52);
+    parameter(b", reached ", image, 55);
+    labelled_word(b", AIN0 ", reg_image::analog(image, 0));
+    parameter(b", switches right ", image, 211);
+    parameter(b", left ", image, 212);
+    parameter(b", home ", image, 213);
     text(b"\n");
 }
 
-pub(crate) fn ticked(count: usize, status: u8, w: Wait) {
+pub(crate) fn ticked(count: usize, status: u8, image: &[u32; REGISTERS]) {
     text(b"  ");
     counted(count as u64, b" tick");
     labelled(b": status ", status as u64);
     text(b"; ");
-    wait(w);
+    wait(image);
     text(b"\n");
 }

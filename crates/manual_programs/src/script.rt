@@ -2,10 +2,6 @@
 //
 // Its first byte says the kind; words stand apart by single spaces; numbers are decimal, with a minus
 // where they are negative, and fit 32 bits. A line that reads as no kind is unknown, whatever it holds.
-use pins::Inputs;
-use pins::Signals;
-use sampling::Readings;
-use sampling::Sample;
 use wire::Command;
 use words::Word;
 
@@ -116,45 +112,5 @@ pub(crate) fn command_of(read: &[i32; 16]) -> Command {
         kind: byte(read[1]),
         motor: byte(read[2]),
         value: Word { v: read[3] },
-    }
-}
-
-fn readings(read: &[i32; 16]) -> Readings {
-    Readings {
-        ramp_position: read[0],
-        actual_position: read[1],
-        reached: read[2],
-        right: read[3],
-        left: read[4],
-        home: read[5],
-        supply_voltage: read[6],
-        temperature: read[7],
-    }
-}
-
-fn inputs(read: &[i32; 16]) -> Inputs {
-    Inputs {
-        digital_0: Word { v: read[8] },
-        digital_1: Word { v: read[9] },
-        analog_0: read[10],
-        analog_1: read[11],
-        analog_2: read[12],
-    }
-}
-
-fn signals(read: &[i32; 16]) -> Signals {
-    Signals {
-        eal: Word { v: read[13] },
-        edv: Word { v: read[14] },
-        epo: Word { v: read[15] },
-    }
-}
-
-// The sample that a line's numbers make, in the order of its fields.
-pub(crate) fn sample_of(read: &[i32; 16]) -> Sample {
-    Sample {
-        readings: readings(read),
-        inputs: inputs(read),
-        signals: signals(read),
     }
 }

@@ -58,13 +58,6 @@ impl Inputs {
         ranges::analog_in_range(&analog)
     }
 
-    // Each 1 or 0.
-    pub fn digital(self) -> [u8; 2]
-        ensures { λ r. ⌜ r ≡ digitalOf self ⌝ }
-    {
-        [bit_of(self.digital_0), bit_of(self.digital_1)]
-    }
-
     // As they are.
     pub fn analog(self) -> [i32; 3]
         ensures { λ r. ⌜ r ≡ analogOf self ⌝ }

@@ -14,7 +14,7 @@ use Rattle.waits.specs.Waits as waits
 use Rattle.sampling.specs.Sample.{settingsInRange, settled, sampleInRange}
 use Rattle.board.specs.Registers.{unpowered, powered}
 use Rattle.board.specs.Range.{registersInRange}
-use Rattle.events.specs.Events.{poweredUp, sampled, ticked}
+use Rattle.rules.specs.Events.{poweredUp, sampled, ticked}
 use Rattle.promises.specs.Examples.{Examples, begun}
 
 pub examples : Examples

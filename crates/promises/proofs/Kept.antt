@@ -22,26 +22,26 @@ use Rattle.registers.specs.declared.Download.{Download}
 use Rattle.values.proofs.Rules as values
 use Rattle.jumping.specs.Jump.{addressOf}
 use Rattle.jumping.proofs.Addresses.{address-in}
-use Rattle.stepping.specs.Step.{State, step}
+use Rattle.rules.specs.Step.{State, step}
 use Rattle.keeping.specs.Sound.{Sound}
 use Rattle.keeping.specs.Laws as keep-laws
 use Rattle.keeping.proofs.Cores as cores
 use Rattle.keeping.proofs.Rules as keeping
 use Rattle.resetting.specs.Laws as reset-laws
 use Rattle.resetting.proofs.Rules as resetting
-use Rattle.beginning.specs.Beginning.{afresh}
-use Rattle.control.specs.Control as control
-use Rattle.control.proofs.Cases.{by-command}
-use Rattle.directing.specs.Direct.{directed}
+use Rattle.rules.specs.Beginning.{afresh}
+use Rattle.rules.specs.Control as control
+use Rattle.rules.proofs.ControlCases.{by-command}
+use Rattle.rules.specs.Direct.{directed}
 use Rattle.board.specs.Registers.{powered}
-use Rattle.board.specs.Step.{stateOf, pinsOf, withState, stepOnce}
+use Rattle.rules.specs.Steps.{stateOf, pinsOf, withState, stepOnce}
 use Rattle.board.specs.declared.Registers.{Registers}
-use Rattle.commands.specs.Obey.{direct, obeyed}
-use Rattle.commands.proofs.Cases.{by-mode}
-use Rattle.controlling.specs.Controlling.{withPlace, placed, defaults, obeyedControl}
-use Rattle.controlling.proofs.Cases as controlling
-use Rattle.storing.specs.Storing.{withDownload, stored}
-use Rattle.storing.proofs.Cases.{by-stored}
+use Rattle.rules.specs.Obey.{direct, obeyed}
+use Rattle.rules.proofs.ObeyCases.{by-mode}
+use Rattle.rules.specs.Controlling.{withPlace, placed, defaults, obeyedControl}
+use Rattle.rules.proofs.ControllingCases as controlling
+use Rattle.rules.specs.Storing.{withDownload, stored}
+use Rattle.rules.proofs.StoringCases.{by-stored}
 use Rattle.promises.specs.Commands.{InRange}
 use Rattle.promises.proofs.Rules.{parts, whole, powered-in-range}
 

@@ -19,37 +19,31 @@ use Rattle.status.specs.Status.{numberOf, isDone}
 use Rattle.status.specs.declared.Status.{Status}
 use Rattle.status.specs.declared.Status.the-variants.{Done, Stored, Checksum, Unknown, Kind, Value, Locked, Unavailable}
 use Rattle.status.proofs.Statuses.{by-status}
-use Rattle.running.specs.Run as running
-use Rattle.stepping.specs.Step.{State}
-use Rattle.directing.specs.Direct.{directed}
-use Rattle.directing.proofs.Cases.{by-command}
+use Rattle.rules.specs.Run as running
+use Rattle.rules.specs.Step.{State}
+use Rattle.rules.specs.Direct.{directed}
+use Rattle.rules.proofs.DirectCases.{by-command}
 use Rattle.keeping.specs.Laws as keep-laws
 use Rattle.keeping.proofs.Rules as keeping
 use Rattle.serial.specs.Serial.{takenOf}
 use Rattle.serial.specs.declared.Taken.{Taken}
 use Rattle.serial.specs.declared.Taken.the-variants.{NotOurs, Damaged, Whole}
-use Rattle.control.specs.Control as control
+use Rattle.rules.specs.Control as control
 use Rattle.board.specs.Range.{registersInRange}
-use Rattle.board.specs.Step.{stateOf, pinsOf, withState, steps, stepOnce}
+use Rattle.rules.specs.Steps.{stateOf, pinsOf, withState, steps, stepOnce}
 use Rattle.board.specs.declared.Registers.{Registers}
-use Rattle.commands.specs.Obey.{Outcome, direct, outcome, obeyed}
-use Rattle.commands.proofs.Cases.{by-mode}
-use Rattle.controlling.specs.Controlling.{controlled, judgedControl, obeyedControl}
-use Rattle.controlling.proofs.Cases.{by-judge}
-use Rattle.outcomes.specs.Outcome.{done, refused}
-use Rattle.storing.specs.Storing.{stored}
-use Rattle.storing.proofs.Cases.{by-stored}
-use Rattle.runs.specs.Run as runs
-use Rattle.runs.proofs.Cases.{by-run}
-use Rattle.runs.specs.declared.Ended.{Ended}
-use Rattle.runs.specs.declared.Ended.the-variants.{Length, HandedIn, Budget, Last}
-use Rattle.runs.specs.declared.Ran.{Ran}
-use Rattle.datagrams.specs.Datagram.{Board, After, board, left, lent, unchanged, answerStatus, obeyedBy, received, datagram}
-use Rattle.datagrams.proofs.Cases.{by-datagram}
+use Rattle.rules.specs.Obey.{Outcome, direct, outcome, obeyed}
+use Rattle.rules.proofs.ObeyCases.{by-mode}
+use Rattle.rules.specs.Controlling.{controlled, judgedControl, obeyedControl}
+use Rattle.rules.proofs.ControllingCases.{by-judge}
+use Rattle.rules.specs.Outcome.{done, refused}
+use Rattle.rules.specs.Storing.{stored}
+use Rattle.rules.proofs.StoringCases.{by-stored}
+use Rattle.rules.specs.RunEvent as runs
+use Rattle.rules.proofs.RunCases.{by-run}
+use Rattle.rules.specs.Datagram.{Board, After, board, lent, unchanged, obeyedBy, received, datagram}
+use Rattle.rules.proofs.DatagramCases.{by-datagram}
 use Rattle.replying.specs.Reply.{byteOf, addresses, replied}
-use Rattle.datagrams.specs.declared.Answer as answers
-use Rattle.datagrams.specs.declared.Answer.{Answer}
-use Rattle.datagrams.specs.declared.Answered.{Answered}
 use Rattle.promises.specs.Commands.{Commands, InRange, carriedOut}
 use Rattle.promises.proofs.Kept.{with-state, sound, obeyed-kept}
 
@@ -186,54 +180,6 @@ run-refused program budget r m e =
     by-run program budget r m (λ a. (a .registers ≡ r) × (a .store ≡ m) × (a .steps ≡ 0)) (λ _. (refl, refl, refl))
     (λ q. absurd (true≢false (sym q ∙ e)))
 
--- ---- one answer: each is found again by its number
-statusAt : ℕ → Status
-statusAt n =
-    pick (eqb n 100) Done
-    (pick (eqb n 101) Stored
-    (pick (eqb n 1) Checksum
-    (pick (eqb n 2) Unknown
-    (pick (eqb n 3) Kind
-    (pick (eqb n 4) Value
-    (pick (eqb n 5) Locked Unavailable))))))
-
-answerAt : ℕ → Answer
-answerAt n =
-    pick (eqb n 0) answers.the-variants.Nothing
-    (pick (eqb n 20) answers.the-variants.Length
-    (pick (eqb n 23) answers.the-variants.HandedIn (answers.the-variants.Replied (statusAt n))))
-
-endedAt : ℕ → Ended
-endedAt n = pick (eqb n 20) Length (pick (eqb n 23) HandedIn (pick (eqb n 22) Budget (Last (statusAt n))))
-
-answer-again : (a : Answer) → answerAt (answerStatus a) ≡ a
-unfolding answerAt statusAt
-answer-again answers.the-variants.Nothing = refl
-answer-again answers.the-variants.Length = refl
-answer-again answers.the-variants.HandedIn = refl
-answer-again (answers.the-variants.Replied s) =
-    by-status (λ t. answerAt (numberOf t) ≡ answers.the-variants.Replied t) refl refl refl refl refl refl refl refl s
-
-ended-again : (e : Ended) → endedAt (runs.endedStatus e) ≡ e
-unfolding endedAt statusAt
-ended-again Length = refl
-ended-again HandedIn = refl
-ended-again Budget = refl
-ended-again (Last s) = by-status (λ t. endedAt (numberOf t) ≡ Last t) refl refl refl refl refl refl refl refl s
-
-one-datagram : (a b : Answered) (p m o : List ℕ) → left a p m o ≡ left b p m o → a ≡ b
-one-datagram a b p m o e =
-    let r : a .registers ≡ b .registers = ap (λ (y : After). y .board .registers) e in
-    let s : a .answer ≡ b .answer = sym (answer-again (a .answer)) ∙ ap (λ (y : After). answerAt (y .status)) e ∙ answer-again (b .answer) in
-    rw (r, s)
-
-one-run : (a b : Ran) (m : List ℕ) → runs.answered a m ≡ runs.answered b m → a ≡ b
-one-run a b m e =
-    let r : a .registers ≡ b .registers = ap (λ (y : runs.Answer). y .registers) e in
-    let s : a .ended ≡ b .ended = sym (ended-again (a .ended)) ∙ ap (λ (y : runs.Answer). endedAt (y .status)) e ∙ ended-again (b .ended) in
-    let n : a .steps ≡ b .steps = ap (λ (y : runs.Answer). y .steps) e in
-    rw (r, s, n)
-
 pub commands : Commands
 commands =
     record {
@@ -246,6 +192,4 @@ commands =
       command-in-range = λ c r p m f b h. obeyed-kept c r h p m f b;
       datagram-in-range = datagram-in-range;
       run-in-range = run-in-range;
-      one-datagram = one-datagram;
-      one-run = one-run;
     }

@@ -28,12 +28,10 @@ use Rattle.sampling.specs.declared.Sample.{Sample}
 use Rattle.sampling.proofs.Rules as sampling
 use Rattle.board.specs.Registers.{powered}
 use Rattle.board.specs.Range.{addressesInRange, registersInRange}
-use Rattle.events.specs.Events.{Outcome, outcome, statusOf, withSample, withTick, poweredUp, sampled, ticked}
-use Rattle.events.proofs.Cases.{by-power-up, by-sample, by-tick}
-use Rattle.promises.specs.Laws.{OneOutcome, Laws}
+use Rattle.rules.specs.Events.{Outcome, outcome, withSample, withTick, poweredUp, sampled, ticked}
+use Rattle.rules.proofs.EventCases.{by-power-up, by-sample, by-tick}
+use Rattle.promises.specs.Laws.{Laws}
 use Rattle.board.specs.declared.Registers.{Registers}
-use Rattle.events.specs.declared.Answer.{Answer}
-use Rattle.events.specs.declared.Answer.the-variants.{Done, Length, Field, HandedIn}
 
 -- ---- the seven tests that make up the range of registers
 pub record Parts (r : Registers) : Type 0 where
@@ -151,31 +149,6 @@ powered-runs : (s : List ℕ) → powered s .core .running ≡ sameW (poweredAt 
 unfolding powered axis globals rweRows rwRows rRows
 powered-runs s = ap (λ (w : Word). sameW (w .v) (pos 1)) (values.powered-at s 46 (lit< tt))
 
--- ---- one answer
-one-answer : (a b : Answer) → statusOf a ≡ statusOf b → a ≡ b
-one-answer Done Done e = refl
-one-answer Done Length e = absurd (omega (arith, e))
-one-answer Done Field e = absurd (omega (arith, e))
-one-answer Done HandedIn e = absurd (omega (arith, e))
-one-answer Length Done e = absurd (omega (arith, e))
-one-answer Length Length e = refl
-one-answer Length Field e = absurd (omega (arith, e))
-one-answer Length HandedIn e = absurd (omega (arith, e))
-one-answer Field Done e = absurd (omega (arith, e))
-one-answer Field Length e = absurd (omega (arith, e))
-one-answer Field Field e = refl
-one-answer Field HandedIn e = absurd (omega (arith, e))
-one-answer HandedIn Done e = absurd (omega (arith, e))
-one-answer HandedIn Length e = absurd (omega (arith, e))
-one-answer HandedIn Field e = absurd (omega (arith, e))
-one-answer HandedIn HandedIn e = refl
-
-one-outcome : OneOutcome
-one-outcome x y e =
-    let a = one-answer (x .answer) (y .answer) (ap (λ (o : Outcome). o .status) e) in
-    let r : x .registers ≡ y .registers = ap (λ (o : Outcome). o .registers) e in
-    rw (a, r)
-
 power-up-done : (s : List ℕ) (r : Registers) → length s ≡ 364 → poweredUp s r ≡ outcome 100 (powered s)
 unfolding poweredUp
 power-up-done s r h = simp (eq-eqb (length s) 364 h)
@@ -198,5 +171,4 @@ laws =
       power-up-refused = λ s r. power-up-refused r s;
       sample-refused = λ s r. sample-refused r s;
       tick-refused = tick-refused;
-      one-outcome = one-outcome;
     }

@@ -15,15 +15,13 @@ use Rattle.status.specs.declared.Status.the-variants.{Done, Stored, Checksum, U
 use Rattle.serial.specs.Serial.{takenOf}
 use Rattle.serial.specs.declared.Taken.the-variants.{NotOurs}
 use Rattle.board.specs.Range.{registersInRange}
-use Rattle.board.specs.Step.{stepOnce}
+use Rattle.rules.specs.Steps.{stepOnce}
 use Rattle.board.specs.declared.Registers.{Registers}
-use Rattle.commands.specs.Obey.{outcome, obeyed}
-use Rattle.outcomes.specs.Outcome.{done, refused}
-use Rattle.runs.specs.Run as runs
-use Rattle.runs.specs.declared.Ran.{Ran}
-use Rattle.datagrams.specs.Datagram.{Board, board, left, lent, datagram}
+use Rattle.rules.specs.Obey.{outcome, obeyed}
+use Rattle.rules.specs.Outcome.{done, refused}
+use Rattle.rules.specs.RunEvent as runs
+use Rattle.rules.specs.Datagram.{Board, board, lent, datagram}
 use Rattle.replying.specs.Reply.{byteOf}
-use Rattle.datagrams.specs.declared.Answered.{Answered}
 
 -- a command was carried out: done, or put in program memory
 abbrev pub carriedOut : Status → Bool
@@ -68,6 +66,3 @@ pub record Commands : Type 0 where
       → InRange (datagram bytes x .board .registers)
   pub run-in-range : (program : List ℕ) (budget : ℕ) (r : Registers) (m : List ℕ) → AllBytes program → InRange r
       → InRange (runs.run program budget r m .registers)
-  -- two answers that meet a promise are one
-  pub one-datagram : (a b : Answered) (p m o : List ℕ) → left a p m o ≡ left b p m o → a ≡ b
-  pub one-run : (a b : Ran) (m : List ℕ) → runs.answered a m ≡ runs.answered b m → a ≡ b

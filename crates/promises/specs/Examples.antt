@@ -16,7 +16,7 @@ use Rattle.waits.specs.declared.Wait.{Wait}
 use Rattle.flags.specs.declared.Flags.{Flags}
 use Rattle.sampling.specs.declared.Sample.{Sample}
 use Rattle.board.specs.Registers.{unpowered, powered}
-use Rattle.events.specs.Events.{outcome, poweredUp, sampled, ticked}
+use Rattle.rules.specs.Events.{outcome, poweredUp, sampled, ticked}
 use Rattle.board.specs.declared.Registers.{Registers}
 
 -- ---- registers: power-up's on the default cells, with some parts changed

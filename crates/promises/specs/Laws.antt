@@ -14,13 +14,8 @@ use Rattle.stack.specs.Stack.{stack, emptied}
 use Rattle.sampling.specs.declared.Sample.{Sample}
 use Rattle.board.specs.Registers.{powered}
 use Rattle.board.specs.Range.{registersInRange}
-use Rattle.events.specs.Events.{outcome, outcomeOf, poweredUp, sampled, ticked}
+use Rattle.rules.specs.Events.{outcome, poweredUp, sampled, ticked}
 use Rattle.board.specs.declared.Registers.{Registers}
-use Rattle.events.specs.declared.After.{After}
-
--- an event's answer is known by its registers and its number
-abbrev pub OneOutcome : Type 0
-OneOutcome = (x y : After) → outcomeOf x ≡ outcomeOf y → x ≡ y
 
 pub record Laws : Type 0 where
   -- power-up leaves registers in range, whatever the cells hold; sample and tick keep registers in range
@@ -40,5 +35,3 @@ pub record Laws : Type 0 where
   pub power-up-refused : (s : List ℕ) (r : Registers) → (poweredUp s r .status ≡ 100 → ⊥) → poweredUp s r .registers ≡ r
   pub sample-refused : (s : Sample) (r : Registers) → (sampled s r .status ≡ 100 → ⊥) → sampled s r .registers ≡ r
   pub tick-refused : (r : Registers) → (ticked r .status ≡ 100 → ⊥) → ticked r .registers ≡ r
-  -- two answers that meet an event's promise are one
-  pub one-outcome : OneOutcome

@@ -11,24 +11,6 @@ pub struct Addresses {
     pub module_address: u8,
 }
 
-// A global of 0 to 255 as a byte.
-pub fn byte_of(values: &[i32; 103], number: u8) -> u8
-    ensures { λ r. ⌜ r ≡ spec.byteOf (now (values .entry)) number ⌝ }
-{
-    let four = words::four_of(values::value_at(values, settings::bank_place(0, number)));
-    four.b0
-}
-
-// From the working values, before the command.
-pub fn from_values(values: &[i32; 103]) -> Addresses
-    ensures { λ r. ⌜ r ≡ spec.addresses (now (values .entry)) ⌝ }
-{
-    Addresses {
-        reply_address: byte_of(values, 76),
-        module_address: byte_of(values, 66),
-    }
-}
-
 // Writes a reply of nine bytes.
 pub fn reply_with(reply: &mut [u8], from: Addresses, status: Status, number: u8, value: Word)
     ensures { λ _. ⌜ now (reply .exit) ≡ spec.replied (now (reply .entry)) from status number value ⌝ }

@@ -1,19 +1,8 @@
-// 137: every value that may be set goes to its default, in memory and in its cell.
+// 137 sets cells and working values to their defaults; these are the cells.
 ghost use mathlib.Core.Path.{_≡_};
 ghost use Rattle.sheet.specs.Rows.{rows};
 ghost use Rattle.resetting.specs.Laws.{Laws};
-ghost use Rattle.resetting.specs.Resetting.{resetValue, resetCell, resetValues, resetCells};
-
-// The value at a place to its default, unless it is read only.
-fn reset_value(values: &mut [i32; 103], place: usize)
-    ensures { λ _. ⌜ now (values .exit) ≡ resetValue rows place (now (values .entry)) ⌝ }
-{
-    let row = sheet::row_at(place);
-    let access = row.access;
-    if access.writes() {
-        values::put_value(values, place, row.standard);
-    }
-}
+ghost use Rattle.resetting.specs.Resetting.{resetCell, resetCells};
 
 // The cell of the value at a place to the default, where it has one.
 fn reset_cell(store: &mut [u8], place: usize)
@@ -26,13 +15,12 @@ fn reset_cell(store: &mut [u8], place: usize)
     }
 }
 
-// All values and all cells, in rising order.
-pub fn reset(values: &mut [i32; 103], store: &mut [u8])
-    ensures { λ _. ⌜ (now (values .exit) ≡ resetValues rows 103 (now (values .entry))) × (now (store .exit) ≡ resetCells rows 103 (now (store .entry))) ⌝ }
+// All cells, in rising order.
+pub fn reset_cells(store: &mut [u8])
+    ensures { λ _. ⌜ now (store .exit) ≡ resetCells rows 103 (now (store .entry)) ⌝ }
 {
     let mut place = 0;
     while place < 103 {
-        reset_value(values, place);
         reset_cell(store, place);
         place += 1;
     }

@@ -16,16 +16,16 @@ use Rattle.status.specs.Status.{numberOf}
 use Rattle.status.proofs.Statuses.{number-done}
 use Rattle.serial.specs.Serial.{takenOf}
 use Rattle.serial.specs.declared.Taken.{Taken}
-use Rattle.control.specs.Control as control
+use Rattle.rules.specs.Control as control
 use Rattle.board.specs.declared.Registers.{Registers}
-use Rattle.events.specs.Events as events
-use Rattle.events.proofs.Cases.{by-power-up}
-use Rattle.controlling.specs.Controlling as controlling
-use Rattle.controlling.proofs.Cases.{by-judge}
-use Rattle.commands.specs.Obey as commands
+use Rattle.rules.specs.Events as events
+use Rattle.rules.proofs.EventCases.{by-power-up}
+use Rattle.rules.specs.Controlling as controlling
+use Rattle.rules.proofs.ControllingCases.{by-judge}
+use Rattle.rules.specs.Obey as commands
 use Rattle.replying.specs.Reply.{byteOf}
-use Rattle.datagrams.specs.Datagram.{Board, board, After, obeyedBy, datagram}
-use Rattle.datagrams.proofs.Cases.{by-datagram}
+use Rattle.rules.specs.Datagram.{Board, board, After, obeyedBy, datagram}
+use Rattle.rules.proofs.DatagramCases.{by-datagram}
 use Rattle.safety.specs.Events.{World, Event, kept, after, carries, beginsBy, beginsProgram}
 use Rattle.safety.specs.Events as trace
 use Rattle.safety.proofs.Stands as stands

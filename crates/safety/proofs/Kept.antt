@@ -18,29 +18,29 @@ use Rattle.status.proofs.Statuses.{number-done, all-right}
 use Rattle.serial.specs.Serial.{takenOf}
 use Rattle.serial.specs.declared.Taken.{Taken}
 use Rattle.points.specs.Reach.{Safe}
-use Rattle.deciding.specs.Deciding.{decided, worked}
-use Rattle.control.specs.Control.{judged, begins}
-use Rattle.control.proofs.Cases as control
-use Rattle.directing.proofs.Cases as directing
-use Rattle.running.specs.Run.{begun, run}
-use Rattle.running.specs.Laws as running
-use Rattle.running.proofs.Counts as counts
+use Rattle.rules.specs.Deciding.{decided, worked}
+use Rattle.rules.specs.Control.{judged, begins}
+use Rattle.rules.proofs.ControlCases as control
+use Rattle.rules.proofs.DirectCases as directing
+use Rattle.rules.specs.Run.{begun, run}
+use Rattle.rules.specs.RunLaws as running
+use Rattle.rules.proofs.Counts as counts
 use Rattle.board.specs.Registers.{powered}
-use Rattle.board.specs.Step.{stateOf, pinsOf, steps, stepOnce}
+use Rattle.rules.specs.Steps.{stateOf, pinsOf, steps, stepOnce}
 use Rattle.board.specs.declared.Registers.{Registers}
-use Rattle.events.specs.Events as events
-use Rattle.events.proofs.Cases.{by-power-up, by-sample, by-tick}
-use Rattle.runs.specs.Run as runs
-use Rattle.runs.proofs.Cases.{by-run}
-use Rattle.storing.specs.Storing as storing
-use Rattle.storing.proofs.Cases.{by-stored}
-use Rattle.controlling.specs.Controlling as controlling
-use Rattle.controlling.proofs.Cases.{by-command, by-judge}
-use Rattle.commands.specs.Obey as commands
-use Rattle.commands.proofs.Cases.{by-mode}
+use Rattle.rules.specs.Events as events
+use Rattle.rules.proofs.EventCases.{by-power-up, by-sample, by-tick}
+use Rattle.rules.specs.RunEvent as runs
+use Rattle.rules.proofs.RunCases.{by-run}
+use Rattle.rules.specs.Storing as storing
+use Rattle.rules.proofs.StoringCases.{by-stored}
+use Rattle.rules.specs.Controlling as controlling
+use Rattle.rules.proofs.ControllingCases.{by-command, by-judge}
+use Rattle.rules.specs.Obey as commands
+use Rattle.rules.proofs.ObeyCases.{by-mode}
 use Rattle.replying.specs.Reply.{byteOf}
-use Rattle.datagrams.specs.Datagram.{Board, board, After, obeyedBy, datagram}
-use Rattle.datagrams.proofs.Cases.{by-datagram}
+use Rattle.rules.specs.Datagram.{Board, board, After, obeyedBy, datagram}
+use Rattle.rules.proofs.DatagramCases.{by-datagram}
 use Rattle.leading.specs.Leading.{wayAt}
 use Rattle.safety.specs.Events.{World, Event, after, carries, fromAnother, runsFromAnother}
 use Rattle.safety.specs.Events as trace

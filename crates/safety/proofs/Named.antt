@@ -17,9 +17,9 @@ use Rattle.status.proofs.Statuses.{is-done}
 use Rattle.points.specs.Points.{point}
 use Rattle.points.specs.declared.Point.{Point}
 use Rattle.judge.specs.Judge.{judged, isFlow}
-use Rattle.flow.specs.Flow.{called, returned, flowed}
-use Rattle.stepping.specs.Step.{State, Pins, after, only, carried, obeyed, step}
-use Rattle.stepping.proofs.Cases.{by-obeyed}
+use Rattle.rules.specs.Flow.{called, returned, flowed}
+use Rattle.rules.specs.Step.{State, Pins, after, only, carried, obeyed, step}
+use Rattle.rules.proofs.StepCases.{by-obeyed}
 use Rattle.leading.specs.Leading.{byDepth, recordStatus, statusAt}
 
 module _ (r : Command) (p : Pins) (x : State) where

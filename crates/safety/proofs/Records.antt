@@ -5,10 +5,10 @@ use mathlib.Core.Bool.{false, true≢false}
 use mathlib.Core.List.{List}
 use Rattle.wire.specs.declared.Command.{Command}
 use Rattle.board.specs.declared.Registers.{Registers}
-use Rattle.commands.specs.Obey.{obeyed}
-use Rattle.commands.proofs.Cases.{by-mode}
-use Rattle.datagrams.specs.Datagram.{Board, board, obeyedBy, datagram}
-use Rattle.datagrams.proofs.Cases.{by-datagram}
+use Rattle.rules.specs.Obey.{obeyed}
+use Rattle.rules.proofs.ObeyCases.{by-mode}
+use Rattle.rules.specs.Datagram.{Board, board, obeyedBy, datagram}
+use Rattle.rules.proofs.DatagramCases.{by-datagram}
 use Rattle.safety.specs.Events.{World, Event, after}
 use Rattle.safety.specs.Events as trace
 

@@ -19,24 +19,21 @@ use Rattle.sheet.specs.Places.{axisPlace}
 use Rattle.settings.specs.Settings.{bankPlace, settable, kept, isGlobal, guarded, locked}
 use Rattle.registers.specs.declared.Core.{Core}
 use Rattle.waits.specs.declared.Wait.{Wait}
-use Rattle.waiting.specs.Waiting.{happened, armedFrom, notNegative, armedWith, tested, waited}
-use Rattle.waiting.specs.declared.Waited.{Waited}
-use Rattle.waiting.specs.declared.Waited.the-variants.{Refused, Passed, TimedOut, Holding}
+use Rattle.waiting.specs.Waiting.{happened, armedFrom, notNegative, armedWith, tested, waited, Waited, Refused, Passed, TimedOut, Holding}
 use Rattle.status.specs.Status.{isDone}
 use Rattle.status.specs.declared.Status.the-variants.{Value, Locked}
 use Rattle.status.proofs.Statuses.{all-right}
-use Rattle.effects.specs.Effects.{statusOf}
-use Rattle.effects.specs.declared.Effect.{Effect}
-use Rattle.effects.specs.declared.Effect.the-variants as effect
-use Rattle.motion.specs.Motion.{parameter, withinLimit, turn, rightWithin, leftWithin, isWord, moveBy, moveTo}
-use Rattle.assigning.specs.Assigning.{shut, assign, take, keep}
+use Rattle.rules.specs.Effects.{statusOf, Effect}
+use Rattle.rules.specs.Effects as effect
+use Rattle.rules.specs.Motion.{parameter, withinLimit, turn, rightWithin, leftWithin, isWord, moveBy, moveTo}
+use Rattle.rules.specs.Assigning.{shut, assign, take, keep}
 use Rattle.dividing.specs.Divide.{Answer, isZero}
 use Rattle.calculating.specs.Calculate.{calculated}
-use Rattle.numbers.specs.Numbers.{intoAccumulator, calc, calcx, clear}
+use Rattle.rules.specs.Numbers.{intoAccumulator, calc, calcx, clear}
 use Rattle.fields.specs.Fields as fields
 use Rattle.judge.specs.Judge.{judged}
-use Rattle.deciding.specs.Deciding.{decided}
-use Rattle.deciding.proofs.Cases.{by-command}
+use Rattle.rules.specs.Deciding.{decided}
+use Rattle.rules.proofs.DecidingCases.{by-command}
 use Rattle.safety.specs.Listed.{byValue, byLock, Listed}
 
 -- ---- what the judge has let through

@@ -4,9 +4,9 @@ use mathlib.Core.Path.{_≡_, sym, _∙_, subst}
 use mathlib.Core.Bool.{true}
 use mathlib.Core.List.{List}
 use Rattle.points.specs.Reach.{Safe}
-use Rattle.stepping.specs.Step.{State}
-use Rattle.running.specs.Run.{begun}
-use Rattle.board.specs.Step.{stateOf, pinsOf}
+use Rattle.rules.specs.Step.{State}
+use Rattle.rules.specs.Run.{begun}
+use Rattle.rules.specs.Steps.{stateOf, pinsOf}
 use Rattle.leading.specs.Leading.{wayAt}
 use Rattle.checking.specs.Check.{Checked, answerOf}
 use Rattle.checking.specs.declared.Verdict.the-variants.{Passed}

@@ -12,25 +12,22 @@ use Rattle.wire.specs.declared.Command.{Command}
 use Rattle.store.specs.Store.{recordAt}
 use Rattle.registers.specs.Registers.{nextAddress}
 use Rattle.registers.specs.declared.Core.{Core}
-use Rattle.waiting.specs.Waiting.{waited}
-use Rattle.waiting.specs.declared.Waited.{Waited}
-use Rattle.waiting.specs.declared.Waited.the-variants.{Refused, Passed, TimedOut, Holding}
+use Rattle.waiting.specs.Waiting.{waited, Waited, Refused, Passed, TimedOut, Holding}
 use Rattle.status.specs.Status.{isDone, isUnknown}
 use Rattle.status.specs.declared.Status.{Status}
 use Rattle.status.specs.declared.Status.the-variants.{Done}
 use Rattle.points.specs.Reach.{Safe}
 use Rattle.judge.specs.Judge.{judged, isFlow}
-use Rattle.effects.specs.Effects.{changed}
-use Rattle.effects.specs.declared.Effect.{Effect}
-use Rattle.effects.specs.declared.Effect.the-variants as effect
-use Rattle.deciding.specs.Deciding.{decided, worked}
-use Rattle.flow.specs.Flow.{Flow, flow, jumped, called, returned, halted, afterWait, waitedStep, flowed}
-use Rattle.flow.specs.Flow as flow
-use Rattle.flow.proofs.Cases.{by-command}
-use Rattle.stepping.specs.Step.{State, Pins, After, afterWork, carried, obeyed, step}
-use Rattle.stepping.proofs.Cases.{by-carried}
-use Rattle.running.specs.Run.{Progress, begun, advanced}
-use Rattle.running.specs.Laws.{walked}
+use Rattle.rules.specs.Effects.{changed, Effect}
+use Rattle.rules.specs.Effects as effect
+use Rattle.rules.specs.Deciding.{decided, worked}
+use Rattle.rules.specs.Flow.{Flow, flow, jumped, called, returned, halted, afterWait, waitedStep, flowed}
+use Rattle.rules.specs.Flow as flow
+use Rattle.rules.proofs.FlowCases.{by-command}
+use Rattle.rules.specs.Step.{State, Pins, After, afterWork, carried, obeyed, step}
+use Rattle.rules.proofs.StepCases.{by-carried}
+use Rattle.rules.specs.Run.{Progress, begun, advanced}
+use Rattle.rules.specs.RunLaws.{walked}
 use Rattle.leading.specs.Leading.{wayAt}
 use Rattle.safety.specs.Listed.{byValue, byLock, Listed}
 use Rattle.safety.specs.Safety.{turns, Fine}

@@ -11,16 +11,16 @@ use Rattle.serial.specs.Serial.{takenOf}
 use Rattle.serial.specs.declared.Taken.{Taken}
 use Rattle.serial.specs.declared.Taken.the-variants.{NotOurs, Damaged, Whole}
 use Rattle.sampling.specs.declared.Sample.{Sample}
-use Rattle.stepping.specs.Step.{State}
-use Rattle.running.specs.Run.{begun}
-use Rattle.running.specs.Laws.{walked}
-use Rattle.board.specs.Step.{stateOf, pinsOf}
+use Rattle.rules.specs.Step.{State}
+use Rattle.rules.specs.Run.{begun}
+use Rattle.rules.specs.RunLaws.{walked}
+use Rattle.rules.specs.Steps.{stateOf, pinsOf}
 use Rattle.board.specs.declared.Registers.{Registers}
-use Rattle.events.specs.Events as events
-use Rattle.runs.specs.Run as runs
+use Rattle.rules.specs.Events as events
+use Rattle.rules.specs.RunEvent as runs
 use Rattle.replying.specs.Reply.{byteOf}
-use Rattle.datagrams.specs.Datagram.{board}
-use Rattle.datagrams.specs.Datagram as datagrams
+use Rattle.rules.specs.Datagram.{board}
+use Rattle.rules.specs.Datagram as datagrams
 
 -- "Events: datagram, sample, tick, run, power-up", each with the parameter store and the reply buffer that it is lent, which may be
 -- any; the records are lent to all

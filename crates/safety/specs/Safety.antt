@@ -8,8 +8,8 @@ use mathlib.Core.List.{List}
 use lib.Dec.{eqb}
 use Rattle.store.specs.Store.{recordAt}
 use Rattle.status.specs.declared.Status.the-variants.{Done, Unknown}
-use Rattle.stepping.specs.Step.{State, Pins, step}
-use Rattle.board.specs.Step.{pinsOf}
+use Rattle.rules.specs.Step.{State, Pins, step}
+use Rattle.rules.specs.Steps.{pinsOf}
 use Rattle.points.specs.Points.{point}
 use Rattle.leading.specs.Leading.{statusAt}
 use Rattle.checking.specs.Check.{Checked, answerOf}

@@ -9,8 +9,6 @@ use pins::Signals;
 
 mod settings;
 
-pub use settings::put_settings;
-
 // What sets parameters: 51, 52, 55, 211, 212, 213, 220 and 221, in this order.
 pub struct Readings {
     pub ramp_position: i32,

@@ -6,7 +6,6 @@ ghost use Rattle.sampling.specs.Sample.{
   settingAt,
   settingsInRange,
   readingsInRange,
-  settled,
 };
 use crate::Readings;
 use words::Word;
@@ -62,16 +61,4 @@ fn settings_in_range(settings: &[i32; 8]) -> bool
         & setting_in_range(settings, 2, 12)
         & setting_in_range(settings, 1, 9)
         & setting_in_range(settings, 0, 8)
-}
-
-// Sets the parameters among the working values.
-pub fn put_settings(values: &mut [i32; 103], settings: &[i32; 8])
-    ensures { λ _. ⌜ now (values .exit) ≡ settled (now (settings .entry)) 8 (now (values .entry)) ⌝ }
-{
-    let mut i = 0;
-    while i < 8 {
-        let v = settings[i];
-        values::put_value(values, places::axis_place(NUMBERS[i]), Word { v: v });
-        i += 1;
-    }
 }

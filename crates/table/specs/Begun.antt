@@ -8,8 +8,8 @@ use Rattle.wire.specs.declared.Command.{Command}
 use Rattle.values.specs.Examples.{defaultCells}
 use Rattle.status.specs.Status.{numberOf}
 use Rattle.board.specs.Registers.{powered}
-use Rattle.commands.specs.Obey.{Outcome, obeyed}
-use Rattle.datagrams.specs.Datagram.{Board, board, datagram}
+use Rattle.rules.specs.Obey.{Outcome, obeyed}
+use Rattle.rules.specs.Datagram.{Board, board, datagram}
 
 -- an empty program store and a reply buffer of nine zeros
 abbrev pub emptyProgram : List ℕ

@@ -7,9 +7,9 @@ use lib.IntN.{pos, negsuc}
 use Rattle.words.specs.Word.{word}
 use Rattle.store.specs.Store.{cellAt}
 use Rattle.values.specs.Examples.{defaultCells}
-use Rattle.running.specs.Run.{Progress, run}
-use Rattle.running.specs.Run as running
-use Rattle.board.specs.Step.{stateOf, pinsOf}
+use Rattle.rules.specs.Run.{Progress, run}
+use Rattle.rules.specs.Run as running
+use Rattle.rules.specs.Steps.{stateOf, pinsOf}
 use Rattle.board.specs.Registers.{powered}
 use Rattle.status.specs.Status.{numberOf}
 use Rattle.table.specs.Begun.{command, first, more, statusOf}

@@ -11,8 +11,15 @@ use Rattle.order.specs.Order.{sameW, inRange}
 use Rattle.sheet.specs.Places.{axisPlace}
 use Rattle.values.specs.Values.{valueAt}
 use Rattle.waits.specs.declared.Wait.{Wait}
-use Rattle.waiting.specs.declared.Waited.{Waited}
-use Rattle.waiting.specs.declared.Waited.the-variants.{Refused, Passed, TimedOut, Holding}
+
+-- what a WAIT step comes to
+pub data Waited : Type 0 where
+  -- with 4: the accumulator is negative when TICKS -1 arms
+  Refused : Waited
+  Passed : Waited
+  -- passed at count 0, without its condition
+  TimedOut : Waited
+  Holding : Wait → Waited
 
 -- an axis parameter is 1
 unfoldable pub isOn : List ℤ → ℕ → Bool

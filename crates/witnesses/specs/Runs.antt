@@ -8,11 +8,11 @@ use lib.ListN.{replicate}
 use Rattle.words.specs.Word.{word}
 use Rattle.values.specs.Examples.{defaultCells}
 use Rattle.status.specs.Status.{numberOf}
-use Rattle.stepping.specs.Step.{State, Pins, step}
+use Rattle.rules.specs.Step.{State, Pins, step}
 use Rattle.board.specs.Registers.{unpowered}
-use Rattle.board.specs.Step.{stateOf, pinsOf}
+use Rattle.rules.specs.Steps.{stateOf, pinsOf}
 use Rattle.board.specs.declared.Registers.{Registers}
-use Rattle.runs.specs.Run as runs
+use Rattle.rules.specs.RunEvent as runs
 use Rattle.safety.specs.Events.{World, Event, world, after, beginsProgram, afterAll, Quiet, MakesStep}
 use Rattle.safety.specs.Events as events
 use Rattle.witnesses.specs.Programs.{working, refusing, untaken, deepening}

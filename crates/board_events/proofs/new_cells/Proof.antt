@@ -11,7 +11,7 @@ returns c = let x = c .before .is-parameter-store in simp (← x .ensures, not-t
 
 returns-2 : tie.Need-returns-2
 unfolding newCells
-returns-2 c = let x = c .before .before .before .before .before .before .is-parameter-store in simp (← x .ensures, not-false (x .result) (c .before .before .before .before .before .if1 .left), c .before .before .reset .ensures .1)
+returns-2 c = let x = c .before .before .before .before .before .is-parameter-store in simp (← x .ensures, not-false (x .result) (c .before .before .before .before .if1 .left), c .before .before .reset-cells .ensures)
 
 pub new-cells-spec : {M : Type 1} → statement M
 new-cells-spec = tie.close (tie.spec (λ c κs. search needs) (λ c. search needs) returns (λ c κs. search needs) (λ c. search needs) returns-2)

@@ -6,7 +6,7 @@ use lib.ListN.{length}
 use Rattle.words.proofs.Bools.{each}
 use Rattle.store.specs.Store.{isProgramStore, isParameterStore}
 use Rattle.status.specs.Status.{numberOf}
-use Rattle.runs.specs.Run.{Answer}
+use Rattle.rules.specs.RunEvent.{Answer}
 use Rattle.board_runs.proofs.Refusals.{shut, is-20, is-23, is-22, is-made, not-refused}
 use borrow.Author.Needs.{needs}
 use Rattle.board_runs.proofs.run.Statement.{statement}
@@ -53,7 +53,7 @@ returns-4 c =
     let b = sym (g .in-range .ensures) ∙ not-false (g .in-range .result) (h .if2 .left) in
     let d = le-leb (x .budget) 1000 (j .if3 .left) in
     let long : length (x .program .now) ≡ 7168 = eqb-true _ _ (each (isProgramStore (x .program .now)) (isParameterStore (x .cells .now)) a .0) in
-    let w = m .run .ensures long in
+    let w = m .run .ensures .0 long in
     let e = sym (is-made (x .program .now) (x .budget) (x .image .now) (x .cells .now) a b d) in
     record {
       status = c .number .ensures ∙ ap numberOf (w .status) ∙ ap (λ (y : Answer). y .status) e;

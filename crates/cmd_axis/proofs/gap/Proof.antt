@@ -8,7 +8,7 @@ use Rattle.status.specs.declared.Status.the-variants.{Done}
 use Rattle.values.specs.Values.{valueAt}
 use Rattle.fields.specs.Fields as fields
 use Rattle.judge.specs.Judge.{judged, isFlow, isReading}
-use Rattle.reading.specs.Reading.{read}
+use Rattle.rules.specs.Reading.{read}
 use Rattle.reg_image.specs.With.{inCore, withAccumulator}
 use Rattle.reg_image.specs.Image.{registersOf}
 use Rattle.cmd_turns.specs.Turn.{on, through}

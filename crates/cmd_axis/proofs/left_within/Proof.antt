@@ -7,8 +7,8 @@ use mir.Val.{SFits}
 use mir.ValLaws.{toZ-ofZ}
 use Rattle.words.specs.Word.{word}
 use Rattle.registers.specs.declared.Order.the-variants.{Velocity}
-use Rattle.motion.specs.Motion.{withinLimit}
-use Rattle.motion.proofs.Limits.{zero-less, negates, back}
+use Rattle.rules.specs.Motion.{withinLimit}
+use Rattle.rules.proofs.Limits.{zero-less, negates, back}
 use Rattle.cmd_turns.specs.declared.Deed.the-variants.{Order}
 use borrow.Author.Needs.{needs}
 use Rattle.cmd_axis.proofs.left_within.Statement.{statement}

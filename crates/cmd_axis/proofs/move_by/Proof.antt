@@ -4,8 +4,8 @@ use mathlib.Core.Bool.{true}
 use lib.IntN.{_+ℤ_}
 use Rattle.words.specs.Word.{word}
 use Rattle.wrapping.proofs.Wraps.{wrap-stays}
-use Rattle.motion.specs.Motion.{isWord}
-use Rattle.motion.proofs.Limits.{word-fits}
+use Rattle.rules.specs.Motion.{isWord}
+use Rattle.rules.proofs.Limits.{word-fits}
 use Rattle.cmd_turns.specs.declared.Deed.the-variants.{Move}
 use borrow.Author.Needs.{needs}
 use Rattle.cmd_axis.proofs.move_by.Statement.{statement}

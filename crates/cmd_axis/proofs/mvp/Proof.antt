@@ -4,10 +4,10 @@ use mathlib.Core.Bool.{true}
 use lib.Dec.{leb}
 use Rattle.words.specs.declared.Word.{Word}
 use Rattle.values.specs.Values.{valueAt}
-use Rattle.motion.specs.Motion.{parameter, moveBy}
+use Rattle.rules.specs.Motion.{parameter, moveBy}
 use Rattle.fields.specs.Fields as fields
 use Rattle.judge.specs.Judge.{judged, isFlow, isReading}
-use Rattle.deciding.specs.Deciding.{decidedBy}
+use Rattle.rules.specs.Deciding.{decidedBy}
 use Rattle.reg_image.specs.Image.{registersOf}
 use Rattle.cmd_turns.specs.declared.Deed.{Deed}
 use Rattle.cmd_turns.specs.Deed.{doing, seen}

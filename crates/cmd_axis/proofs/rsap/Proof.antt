@@ -8,8 +8,8 @@ use Rattle.sheet.specs.Sheet.{axis}
 use Rattle.settings.proofs.Counts.{axis-rows, place-low}
 use Rattle.fields.specs.Fields as fields
 use Rattle.judge.specs.Judge.{judged, isFlow, isReading}
-use Rattle.effects.specs.declared.Effect.the-variants.{Restore}
-use Rattle.deciding.specs.Deciding.{decidedBy}
+use Rattle.rules.specs.Effects.{Restore}
+use Rattle.rules.specs.Deciding.{decidedBy}
 use Rattle.cmd_turns.specs.declared.Deed.the-variants.{Set}
 use Rattle.cmd_turns.specs.Deed.{doing, seen}
 use Rattle.cmd_axis.proofs.Carries.{carries, refused, passed}
@@ -35,7 +35,7 @@ returns-2 c regs a n =
     let m = x .store .now in
     let r = seen a n regs in
     let place : c .before .narrow .result ≡ p .result =
-    c .before .narrow .ensures (omega (arith, p .ensures, place-low axis (x .c .kind), axis-rows)) in
+    c .before .narrow .ensures .0 (omega (arith, p .ensures, place-low axis (x .c .kind), axis-rows)) in
     ap (λ (k : ℕ). doing (Set k (c .powered-value .result)) r m) place
     ∙ ap (λ (w : Word). doing (Set (p .result) w) r m) (c .powered-value .ensures)
     ∙ carries 8 (x .c) refl refl r m (sym (g .ensures)) (passed (d .is-done .ensures) (i .if1 .left)) (ap Restore (sym (p .ensures)))

@@ -8,8 +8,8 @@ use Rattle.settings.specs.Settings.{settable}
 use Rattle.fields.specs.Fields as fields
 use Rattle.fields.specs.Fields.{sap}
 use Rattle.judge.specs.Judge.{judged, isFlow, isReading}
-use Rattle.assigning.specs.Assigning.{assign}
-use Rattle.deciding.specs.Deciding.{decidedBy}
+use Rattle.rules.specs.Assigning.{assign}
+use Rattle.rules.specs.Deciding.{decidedBy}
 use Rattle.cmd_turns.specs.declared.Deed.{Deed}
 use Rattle.cmd_turns.specs.Deed.{doing, seen}
 use Rattle.cmd_axis.proofs.Carries.{carries, refused, passed, right-type, on-axis, sets}

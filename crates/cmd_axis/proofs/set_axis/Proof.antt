@@ -9,7 +9,7 @@ returns : tie.Need-returns
 returns c h = simp (eq-eqb _ _ (c .if1 .taken))
 
 returns-2 : tie.Need-returns-2
-returns-2 c h = simp (ne-eqb _ _ (c .before .if1 .left), c .narrow .ensures (omega (arith, h)))
+returns-2 c h = simp (ne-eqb _ _ (c .before .if1 .left), c .narrow .ensures .0 (omega (arith, h)))
 
 pub set-axis-spec : {M : Type 1} → statement M
 set-axis-spec = tie.close (tie.spec returns (λ c κs. search needs) returns-2)

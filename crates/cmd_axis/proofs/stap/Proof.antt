@@ -9,8 +9,8 @@ use Rattle.sheet.specs.Rows.{rows, cellOf}
 use Rattle.settings.proofs.Counts.{axis-rows, place-low}
 use Rattle.fields.specs.Fields as fields
 use Rattle.judge.specs.Judge.{judged, isFlow, isReading}
-use Rattle.assigning.specs.Assigning.{keep}
-use Rattle.deciding.specs.Deciding.{decidedBy}
+use Rattle.rules.specs.Assigning.{keep}
+use Rattle.rules.specs.Deciding.{decidedBy}
 use Rattle.reg_image.specs.Image.{registersOf}
 use Rattle.cmd_turns.specs.declared.Deed.the-variants.{Store}
 use Rattle.cmd_turns.specs.Deed.{doing, seen}
@@ -50,7 +50,7 @@ returns-3 c a n m =
     let x = d .before .before .args in
     let r = seen a n (registersOf (x .image .now)) in
     let cell : c .before .narrow .result ≡ cellOf rows (p .result) =
-    c .before .narrow .ensures
+    c .before .narrow .ensures .0
     (omega (arith, e .ensures, cell-low rows (p .result), p .ensures, place-low axis (x .c .kind), axis-rows))
     ∙ e .ensures in
     ap (λ (k : ℕ). doing (Store k (c .value .result)) r m) cell

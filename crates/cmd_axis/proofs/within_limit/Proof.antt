@@ -4,7 +4,7 @@ use mir.Syntax.{w32}
 use mir.ValLaws.{toZ-ofZ}
 use Rattle.words.proofs.Signed.{test-sign}
 use Rattle.words.proofs.Signed as signed
-use Rattle.motion.proofs.Limits.{up, down}
+use Rattle.rules.proofs.Limits.{up, down}
 use Rattle.cmd_axis.proofs.within_limit.Statement.{statement}
 use Rattle.cmd_axis.proofs.within_limit.Tie as tie
 

@@ -6,7 +6,7 @@ use Rattle.cmd_control.proofs.judge.Tie as tie
 returns : tie.Need-returns
 returns c =
     simp (
-      c .judge .ensures,
+      c .status-of .ensures,
       c .before .locked .ensures,
       c .before .before .downloading .ensures,
       c .before .before .before .running .ensures,

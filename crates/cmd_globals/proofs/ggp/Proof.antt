@@ -4,7 +4,7 @@ use mathlib.Core.Bool.{true}
 use Rattle.words.specs.declared.Word.{Word}
 use Rattle.fields.specs.Fields as fields
 use Rattle.judge.specs.Judge.{judged, isFlow, isReading}
-use Rattle.reading.specs.Reading.{read, global}
+use Rattle.rules.specs.Reading.{read, global}
 use Rattle.reg_image.specs.Image.{registersOf}
 use Rattle.cmd_turns.specs.declared.Deed.the-variants.{Number}
 use Rattle.cmd_turns.specs.Deed.{doing, seen}

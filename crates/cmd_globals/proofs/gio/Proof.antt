@@ -6,7 +6,7 @@ use lib.Dec.{leb}
 use Rattle.words.specs.declared.Word.{Word}
 use Rattle.fields.specs.Fields as fields
 use Rattle.judge.specs.Judge.{judged, isFlow, isReading}
-use Rattle.reading.specs.Reading.{read, port}
+use Rattle.rules.specs.Reading.{read, port}
 use Rattle.reg_image.specs.Image.{registersOf}
 use Rattle.cmd_turns.specs.declared.Deed.the-variants.{Number}
 use Rattle.cmd_turns.specs.Deed.{doing, seen}

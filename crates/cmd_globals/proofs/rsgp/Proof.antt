@@ -12,12 +12,13 @@ use Rattle.store.specs.Store.{cellAt}
 use Rattle.settings.specs.Settings.{bankPlace}
 use Rattle.fields.specs.Fields as fields
 use Rattle.judge.specs.Judge.{judged, isFlow, isReading}
-use Rattle.effects.specs.declared.Effect.the-variants.{Restore}
-use Rattle.deciding.specs.Deciding.{decidedBy}
+use Rattle.rules.specs.Effects.{Restore}
+use Rattle.rules.specs.Deciding.{decidedBy}
 use Rattle.cmd_turns.specs.declared.Deed.the-variants.{Set}
 use Rattle.cmd_turns.specs.Deed.{doing, seen}
 use Rattle.cmd_axis.proofs.Carries.{carries, refused, passed, right-motor, right-type}
-use Rattle.cmd_globals.proofs.Users.{user-place, user-powered}
+use Rattle.rules.proofs.Users.{user-powered}
+use Rattle.cmd_globals.proofs.Users.{user-place}
 use borrow.Author.Needs.{needs}
 use Rattle.cmd_globals.proofs.rsgp.Statement.{statement}
 use Rattle.cmd_globals.proofs.rsgp.Tie as tie

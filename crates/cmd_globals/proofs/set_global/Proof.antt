@@ -18,7 +18,7 @@ returns-3 c =
     let p = c .before .before .before in
     let b = p .before .bank-place in
     simp (
-      c .narrow .ensures (rw (b .ensures) (global-low (p .before .before .args .number))),
+      c .narrow .ensures .0 (rw (b .ensures) (global-low (p .before .before .args .number))),
       ← b .ensures,
       ne-eqb _ _ (p .if1 .left),
       ← c .before .before .locked .ensures,

@@ -8,8 +8,8 @@ use Rattle.settings.specs.Settings.{bankPlace, settable}
 use Rattle.fields.specs.Fields as fields
 use Rattle.fields.specs.Fields.{sgp}
 use Rattle.judge.specs.Judge.{judged, isFlow, isReading}
-use Rattle.assigning.specs.Assigning.{assign}
-use Rattle.deciding.specs.Deciding.{decidedBy}
+use Rattle.rules.specs.Assigning.{assign}
+use Rattle.rules.specs.Deciding.{decidedBy}
 use Rattle.reg_image.specs.Image.{registersOf}
 use Rattle.cmd_turns.specs.declared.Deed.{Deed}
 use Rattle.cmd_turns.specs.declared.Deed.the-variants.{Set}

@@ -5,8 +5,8 @@ use lib.Dec.{eqb, leb}
 use lib.IntN.{pos}
 use Rattle.order.specs.Order.{inRange}
 use Rattle.judge.specs.Judge.{judged, isFlow, isReading}
-use Rattle.effects.specs.Effects.{setOutput}
-use Rattle.deciding.specs.Deciding.{decidedBy}
+use Rattle.rules.specs.Effects.{setOutput}
+use Rattle.rules.specs.Deciding.{decidedBy}
 use Rattle.cmd_turns.specs.declared.Deed.the-variants.{Output}
 use Rattle.cmd_turns.specs.Deed.{doing, seen}
 use Rattle.cmd_axis.proofs.Carries.{carries, refused, passed}

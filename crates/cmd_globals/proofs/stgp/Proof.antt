@@ -11,13 +11,14 @@ use Rattle.settings.specs.Settings.{bankPlace}
 use Rattle.values.specs.Values.{valueAt}
 use Rattle.fields.specs.Fields as fields
 use Rattle.judge.specs.Judge.{judged, isFlow, isReading}
-use Rattle.assigning.specs.Assigning.{keep}
-use Rattle.deciding.specs.Deciding.{decidedBy}
+use Rattle.rules.specs.Assigning.{keep}
+use Rattle.rules.specs.Deciding.{decidedBy}
 use Rattle.reg_image.specs.Image.{registersOf}
 use Rattle.cmd_turns.specs.declared.Deed.the-variants.{Store}
 use Rattle.cmd_turns.specs.Deed.{doing, seen}
 use Rattle.cmd_axis.proofs.Carries.{carries, refused, passed, right-motor, right-type, locked-out, unlocked}
-use Rattle.cmd_globals.proofs.Users.{user-place, cell-of-user}
+use Rattle.rules.proofs.Users.{cell-of-user}
+use Rattle.cmd_globals.proofs.Users.{user-place}
 use borrow.Author.Needs.{needs}
 use Rattle.cmd_globals.proofs.stgp.Statement.{statement}
 use Rattle.cmd_globals.proofs.stgp.Tie as tie

@@ -6,11 +6,11 @@ use Rattle.manual_programs.proofs.play.Statement.{statement}
 use Rattle.manual_programs.proofs.play.Tie as tie
 
 abbrev Inv-loop : tie.InvT-loop
-Inv-loop script program₀ cells₀ reply₀ registers₀ at₀ number₀ program cells reply registers at number =
+Inv-loop script program₀ cells₀ reply₀ image₀ at₀ number₀ program cells reply image at number =
     at ≤ length script + 1
 
 abbrev μ-loop : tie.MeasureT-loop
-μ-loop script program₀ cells₀ reply₀ registers₀ at₀ number₀ program cells reply registers at number =
+μ-loop script program₀ cells₀ reply₀ image₀ at₀ number₀ program cells reply image at number =
     length script - at
 
 pub play-spec : {M : Type 1} → statement M
@@ -19,7 +19,6 @@ play-spec =
     (tie.spec
     Inv-loop
     μ-loop
-    (λ c κs. search needs)
     (λ c. search needs)
     (λ c κs. search needs)
     (λ c. search needs)

@@ -19,7 +19,7 @@ returns-2 c r =
 returns-3 : tie.Need-returns-3
 returns-3 c r =
     let x = c .before .before .before .before .before .before .before .before .before .before .before .before .before .args in
-    by-direct (x .c) (x .image .now) (x .program .now) (x .cells .now) (x .frame .now) _ _ _ (lt-leb _ _ (c .before .before .before .before .before .before .before .before .if1 .left)) (sym (c .before .before .before .before .before .before .downloading .ensures) ∙ c .before .before .before .before .before .if2 .left) (r .command) (c .before .before .direct .ensures (r .nine))
+    by-direct (x .c) (x .image .now) (x .program .now) (x .cells .now) (x .frame .now) _ _ _ (lt-leb _ _ (c .before .before .before .before .before .before .before .before .if1 .left)) (sym (c .before .before .before .before .before .before .downloading .ensures) ∙ c .before .before .before .before .before .if2 .left) (r .command) (c .before .before .direct .ensures .0 (r .nine))
 
 pub obey-spec : {M : Type 1} → statement M
 obey-spec =

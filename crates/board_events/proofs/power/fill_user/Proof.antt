@@ -9,16 +9,16 @@ use Rattle.board_events.proofs.power.fill_user.Statement.{statement}
 use Rattle.board_events.proofs.power.fill_user.Tie as tie
 
 abbrev Inv-loop : tie.InvT-loop
-Inv-loop image₀ cells place₀ image place = (place ≤ 103) × Fills cells 48 place image₀ image
+Inv-loop image₀ cells place₀ image place = (48 ≤ place) × (place ≤ 103) × Fills cells 48 place image₀ image
 
 abbrev μ-loop : tie.MeasureT-loop
 μ-loop image₀ cells place₀ image place = 103 - place
 
 loop-holds : tie.Need-loop-holds Inv-loop μ-loop
-loop-holds c = (omega arith, record { fills = λ f. f })
+loop-holds c = (omega arith, omega arith, record { fills = λ f. f })
 
-fill-requires : tie.Need-fill-requires Inv-loop μ-loop
-fill-requires c κs = search needs
+fill-variable-requires : tie.Need-fill-variable-requires Inv-loop μ-loop
+fill-variable-requires c κs = search needs
 
 add-place : tie.Need-add-place Inv-loop μ-loop
 add-place c = search needs
@@ -27,16 +27,16 @@ loop-less : tie.Need-loop-less Inv-loop μ-loop
 loop-less c = search needs
 
 loop-again : tie.Need-loop-again Inv-loop μ-loop
-loop-again c = (omega arith, next _ _ _ _ _ _ _ _ (c .before .before .before .loop .inv .1) (c .fill .ensures) refl)
+loop-again c = (omega arith, omega arith, next _ _ _ _ _ _ _ _ (c .before .before .before .loop .inv .2) (c .fill-variable .ensures) refl)
 
 returns : tie.Need-returns Inv-loop μ-loop
 returns c =
     let k = c .before .loop in
     let a = c .before .before .before .args in
     let e : k .place ≡ 103 = omega arith in
-    subst (λ (n : ℕ). Fills (a .cells .now) 48 n (a .image .now) (k .image)) e (k .inv .1)
+    subst (λ (n : ℕ). Fills (a .cells .now) 48 n (a .image .now) (k .image)) e (k .inv .2)
 
 pub fill-user-spec : {M : Type 1} → statement M
 fill-user-spec =
     tie.close
-    (tie.spec Inv-loop μ-loop loop-holds fill-requires add-place loop-less loop-again returns)
+    (tie.spec Inv-loop μ-loop loop-holds fill-variable-requires add-place loop-less loop-again returns)

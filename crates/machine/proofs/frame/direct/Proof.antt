@@ -7,8 +7,8 @@ use Rattle.words.proofs.Bools.{each}
 use Rattle.wire.specs.Frame.{commandAt}
 use Rattle.wire.specs.declared.Command.{Command}
 use Rattle.judge.specs.Judge.{isFlow}
-use Rattle.outcomes.specs.Outcome.{Changed}
-use Rattle.commands.specs.Obey as obeying
+use Rattle.rules.specs.Outcome.{Changed}
+use Rattle.rules.specs.Obey as obeying
 use Rattle.reg_image.specs.Image.{registersOf}
 use Rattle.cmd_turns.specs.declared.Obeyed.{Obeyed}
 use Rattle.cmd_turns.specs.Obeys.{Obeys}
@@ -18,22 +18,22 @@ use Rattle.machine.proofs.frame.direct.Statement.{statement}
 use Rattle.machine.proofs.frame.direct.Tie as tie
 
 returns : tie.Need-returns
-returns c h = absurd (c .before .if1 .taken h)
+returns c = (λ h. absurd (c .before .if1 .taken h), λ _. (c .refused .ensures, record { image = refl; store = refl }))
 
 returns-2 : tie.Need-returns-2
-returns-2 c h =
+returns-2 c =
     let f = c .before .before in
     let x = f .before .before .before .before .before .args in
-    flow-refused (x .image .now) (f .before .command-at .result) (commandAt (x .frame .now) 1) (f .before .command-at .ensures) (sym (f .is-flow .ensures) ∙ c .before .if2 .taken) (x .store .now) (c .refused2 .result) (c .refused2 .ensures)
+    (λ _. flow-refused (x .image .now) (f .before .command-at .result) (commandAt (x .frame .now) 1) (f .before .command-at .ensures) (sym (f .is-flow .ensures) ∙ c .before .if2 .taken) (x .store .now) (c .refused2 .result) (c .refused2 .ensures), λ n. absurd (n (f .before .before .if1 .left)))
 
 returns-3 : tie.Need-returns-3
-returns-3 c h =
+returns-3 c =
     let i = c .before .before in
     let a = i .before in
     let k = a .before .before .before in
     let x = k .before .before .before .before .args in
     let t = each (eqb (k .command-at .result .number) 10) (eqb (k .command-at .result .kind) 130) (sym (a .reads-address .ensures) ∙ i .if3 .taken) in
-    rw (k .command-at .ensures) at (c .show-address .ensures (eqb-true _ _ (t .0)) (eqb-true _ _ (t .1)) (x .store .now))
+    (λ _. rw (k .command-at .ensures) at (c .show-address .ensures (eqb-true _ _ (t .0)) (eqb-true _ _ (t .1)) (x .store .now)), λ n. absurd (n (k .before .if1 .left)))
 
 obey-record-requires : tie.Need-obey-record-requires
 obey-record-requires c κs =
@@ -44,11 +44,11 @@ obey-record-requires c κs =
     (k .before .if1 .left, k .command-at .ensures, sym (f .is-flow .ensures) ∙ a .before .if2 .left, sym (a .reads-address .ensures) ∙ i .if3 .left)
 
 returns-4 : tie.Need-returns-4
-returns-4 c h =
+returns-4 c =
     let o = c .before .before in
     let i = o .before .before .before in
     let k = i .before .before .before .before in
-    rw (k .command-at .ensures) at (o .obey-record .ensures)
+    (λ _. rw (k .command-at .ensures) at (o .obey-record .ensures), λ n. absurd (n (k .before .if1 .left)))
 
 pub direct-spec : {M : Type 1} → statement M
 direct-spec =

@@ -7,7 +7,7 @@ use Rattle.words.specs.declared.Word.{Word}
 use Rattle.wire.specs.Frame.{commandAt}
 use Rattle.wire.specs.declared.Command.{Command}
 use Rattle.status.specs.declared.Status.the-variants.{Done}
-use Rattle.outcomes.specs.Outcome.{Changed}
+use Rattle.rules.specs.Outcome.{Changed}
 use Rattle.board.specs.declared.Registers.{Registers}
 use Rattle.reg_image.specs.Image.{registersOf}
 use Rattle.cmd_turns.specs.declared.Left.the-variants.{Goes}

@@ -1,6 +1,6 @@
 -- `machine::program::step_alone` meets its contract. Assumes nothing.
-use mathlib.Core.Path.{_≡_, sym, ap, _∙_}
-use Rattle.board.specs.Step as board
+use mathlib.Core.Path.{_≡_, refl, sym, ap, _∙_}
+use Rattle.rules.specs.Steps as board
 use Rattle.reg_image.specs.Image.{registersOf}
 use Rattle.machine.proofs.Runs.{alone-is}
 use borrow.Author.Needs.{needs}
@@ -8,24 +8,22 @@ use Rattle.machine.proofs.program.step_alone.Statement.{statement}
 use Rattle.machine.proofs.program.step_alone.Tie as tie
 
 returns : tie.Need-returns
-returns c h =
-    let w = c .before .before .walk in
-    let x = c .before .before .before .before .before .before .before .before .args in
-    let e = sym (alone-is (x .program .now) h (registersOf (x .image .now)) (x .store .now)) in
-    record {
-      makes = w .ensures .makes ∙ ap (λ (t : board.Turn). t .registers) e;
-      store = w .ensures .store ∙ ap (λ (t : board.Turn). t .store) e;
-      stays = w .ensures .stays;
-    }
+returns c = (λ h. absurd (c .if1 .taken h), λ _. (refl, record { image = refl; store = refl }))
 
 returns-2 : tie.Need-returns-2
-returns-2 c h = absurd (c .if1 .left h)
+returns-2 c =
+    let w = c .before .before .walk in
+    let i = c .before .before .before .before .before in
+    let x = i .before .before .before .args in (
+      λ h. let e = sym (alone-is (x .program .now) h (registersOf (x .image .now)) (x .store .now)) in
+          record {
+            status = w .ensures .status ∙ ap (λ (t : board.Turn). t .status) e;
+            makes = w .ensures .makes ∙ ap (λ (t : board.Turn). t .registers) e;
+            store = w .ensures .store ∙ ap (λ (t : board.Turn). t .store) e;
+            stays = w .ensures .stays;
+          },
+      λ n. absurd (n (i .if1 .left)),
+    )
 
 pub step-alone-spec : {M : Type 1} → statement M
-step-alone-spec =
-    tie.close
-    (tie.spec
-    (λ c κs. search needs)
-    (λ c. search needs)
-    returns
-    returns-2)
+step-alone-spec = tie.close (tie.spec returns (λ c κs. search needs) (λ c. search needs) returns-2)

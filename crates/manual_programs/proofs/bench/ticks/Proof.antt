@@ -5,10 +5,10 @@ use Rattle.manual_programs.proofs.bench.ticks.Statement.{statement}
 use Rattle.manual_programs.proofs.bench.ticks.Tie as tie
 
 abbrev Inv-loop : tie.InvT-loop
-Inv-loop count after₀ status₀ done₀ after status done = done ≤ count
+Inv-loop image₀ count status₀ done₀ image status done = done ≤ count
 
 abbrev μ-loop : tie.MeasureT-loop
-μ-loop count after₀ status₀ done₀ after status done = count - done
+μ-loop image₀ count status₀ done₀ image status done = count - done
 
 pub ticks-spec : {M : Type 1} → statement M
 ticks-spec =
@@ -17,7 +17,6 @@ ticks-spec =
     Inv-loop
     μ-loop
     (λ c. search needs)
-    (λ c κs. search needs)
     (λ c κs. search needs)
     (λ c. search needs)
     (λ c. search needs)

@@ -1,0 +1,15 @@
+pub mod FlowCases
+pub mod StepCases
+pub mod DecidingCases
+pub mod DirectCases
+pub mod ControlCases
+pub mod ControllingCases
+pub mod StoringCases
+pub mod ObeyCases
+pub mod DatagramCases
+pub mod EventCases
+pub mod RunCases
+pub mod Limits
+pub mod Users
+pub mod Counts
+pub mod Runs

@@ -63,11 +63,11 @@ of-parts : (l : List ℕ) → shaped l ≡ true → registersInRange (registersO
 unfolding stands
 of-parts l e f = rw (e, f)
 
-parts : (l : List ℕ) → stands l ≡ true → (shaped l ≡ true) × (registersInRange (registersOf l) ≡ true)
+pub parts : (l : List ℕ) → stands l ≡ true → (shaped l ≡ true) × (registersInRange (registersOf l) ≡ true)
 unfolding stands
 parts l h = each (shaped l) (registersInRange (registersOf l)) h
 
-in-range : (l : List ℕ) → length l ≡ 137 → stands l ≡ true → InRange (registersOf l)
+pub in-range : (l : List ℕ) → length l ≡ 137 → stands l ≡ true → InRange (registersOf l)
 unfolding registersOf
 in-range l n h = record {
   all = parts l h .1;
@@ -76,14 +76,14 @@ in-range l n h = record {
 
 -- ---- power-up, sample and tick
 module _ (status : ℕ) (r : Registers) (l k : List ℕ) (n : ℕ) (t : Told status r l k n) where
-  told-refused : (n ≡ 100 → ⊥) → k ≡ l
+  pub told-refused : (n ≡ 100 → ⊥) → k ≡ l
   told-refused other = by (eqb status 100) refl (t .leaves)
     where
       by : (b : Bool) → eqb status 100 ≡ b → Leaving b r l k → k ≡ l
       by true e x = absurd (other (t .answers ∙ eqb-true status 100 e))
       by false e x = x
 
-  told-done : status ≡ 100 → registersInRange r ≡ true → stands k ≡ true
+  pub told-done : status ≡ 100 → registersInRange r ≡ true → stands k ≡ true
   told-done e f =
       let x : Is k r = subst (λ (s : ℕ). Leaving (eqb s 100) r l k) e (t .leaves) in
       of-parts k (x .shape) (ap registersInRange (x .of) ∙ f)
@@ -110,11 +110,11 @@ sample-range fields l n h e = by (sampleInRange (sampleOf fields)) refl
 
 -- ---- datagrams and runs, from an image that stands
 module _ (l : List ℕ) (h : stands l ≡ true) where
-  same-datagram : (bytes p m b : List ℕ) → answered bytes l p m b ≡ datagrams.datagram bytes (board (registersOf l) p m b)
+  pub same-datagram : (bytes p m b : List ℕ) → answered bytes l p m b ≡ datagrams.datagram bytes (board (registersOf l) p m b)
   unfolding answered datagrams.datagram
   same-datagram bytes p m b = rw (h, parts l h .1)
 
-  same-run : (program : List ℕ) (budget : ℕ) (m : List ℕ) → ran program budget l m ≡ runs.run program budget (registersOf l) m
+  pub same-run : (program : List ℕ) (budget : ℕ) (m : List ℕ) → ran program budget l m ≡ runs.run program budget (registersOf l) m
   unfolding ran runs.run
   same-run program budget m = rw (h, parts l h .1)
 
@@ -208,12 +208,28 @@ shut-datagram x y true true q = absurd (true≢false q)
 shut-datagram x y true false q = refl
 shut-datagram x y false c q = refl
 
-datagram-shut : (bytes l p m b : List ℕ) (n : ℕ) (k p' m' b' : List ℕ) → Answers bytes l p m b n k p' m' b'
+pub datagram-shut : (bytes l p m b : List ℕ) (n : ℕ) (k p' m' b' : List ℕ) → Answers bytes l p m b n k p' m' b'
     → lent p m b && stands l ≡ false → (k ≡ l) × (p' ≡ p) × (m' ≡ m) × (b' ≡ b)
 unfolding answered
 datagram-shut bytes l p m b n k p' m' b' a e =
     let s = shut-datagram (board (registersOf l) p m b) _ (lent p m b) (stands l) e in
     (a .kept e, a .program ∙ ap (λ (y : Board). y .program) s, a .cells ∙ ap (λ (y : Board). y .store) s, a .reply ∙ ap (λ (y : Board). y .reply) s)
+
+shut-status : (x : Board) (y : After) (a c : Bool) → a && c ≡ false
+    → pick a (pick c y (unchanged 23 x)) (unchanged 20 x) .status ≡ 100 → ⊥
+shut-status x y true true q e = true≢false q
+shut-status x y true false q e = omega (arith, e)
+shut-status x y false c q e = omega (arith, e)
+
+-- a datagram that is answered 100 was lent memory of its lengths, and met registers in range
+pub done-open : (bytes l p m b : List ℕ) (n : ℕ) (k p' m' b' : List ℕ) → Answers bytes l p m b n k p' m' b' → n ≡ 100
+    → lent p m b && stands l ≡ true
+unfolding answered
+done-open bytes l p m b n k p' m' b' a e = by (lent p m b && stands l) refl
+  where
+    by : (t : Bool) → lent p m b && stands l ≡ t → lent p m b && stands l ≡ true
+    by true f = f
+    by false f = absurd (shut-status (board (registersOf l) p m b) _ (lent p m b) (stands l) f (sym (a .status) ∙ e))
 
 datagram-refused : (bytes l p m b : List ℕ) (n : ℕ) (k p' m' b' : List ℕ) → Numbers l → Numbers k
     → Answers bytes l p m b n k p' m' b' → (n ≡ 100 → ⊥) → (n ≡ 101 → ⊥) → (k ≡ l) × (p' ≡ p) × (m' ≡ m)

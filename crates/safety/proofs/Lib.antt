@@ -1,5 +1,6 @@
 pub mod Refusals
 pub mod Stands
+pub mod Going
 pub mod Steps
 pub mod Kept
 pub mod Begun

@@ -61,7 +61,7 @@ module _ (program : List ℕ) (safe : Safe (wayAt program)) where
     unfolding wayAt
     leads q l = Reach.onward {q = q} (s .here) (rw (not-bad-here p (s .here)) l)
 
-    depth-low : d ≤ 8
+    pub depth-low : d ≤ 8
     depth-low = reached-in program (s .here) .depth
 
     -- ---- to the next record

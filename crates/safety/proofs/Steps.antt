@@ -5,7 +5,7 @@ use mathlib.Core.Path.{_≡_, refl, sym, ap, _∙_, subst}
 use mathlib.Core.Bool.{Bool, true, false, true≢false, false≢true, _||_}
 use mathlib.Core.List.{List}
 use lib.Dec.{eqb}
-use borrow.Author.Tests.{eqb-true, ne-eqb, lt-leb}
+use borrow.Author.Tests.{eqb-true, eqb-false, ne-eqb, lt-leb}
 use Rattle.words.specs.Word.{pick}
 use Rattle.words.proofs.Bools.{or-else}
 use Rattle.wire.specs.declared.Command.{Command}
@@ -30,10 +30,11 @@ use Rattle.rules.specs.Run.{Progress, begun, advanced}
 use Rattle.rules.specs.RunLaws.{walked}
 use Rattle.leading.specs.Leading.{wayAt}
 use Rattle.safety.specs.Listed.{byValue, byLock, Listed}
-use Rattle.safety.specs.Safety.{turns, Fine}
+use Rattle.safety.specs.Safety.{turns, Goes, Fine}
+use Rattle.safety.proofs.Going.{carried-goes}
 use Rattle.safety.proofs.Refusals.{isRefused, wait-value, decided-listed, waited-listed}
 use Rattle.safety.proofs.Stands as stands
-use Rattle.safety.proofs.Stands.{Stands, through, goes-on, room, calls, entry, returns}
+use Rattle.safety.proofs.Stands.{Stands, through, depth-low, goes-on, room, calls, entry, returns}
 
 -- what a step leaves of the program's place
 abbrev pub Standing : List ℕ → State → Type 0
@@ -227,6 +228,14 @@ module _ (program : List ℕ) (safe : Safe (wayAt program)) (x : State) (s : Sta
   pub step-stands : (p : Pins) → Standing program (step program p x .state)
   step-stands p = step-good p .stands
 
+  step-goes : (p : Pins) → Goes r x (step program p x .state)
+  step-goes p =
+      let e = x .entries in
+      subst (λ y. Goes r x (y .state)) (sym (step-carried p))
+      (carried-goes r judged-done p x (through program safe a (c .depth) e s .inside) (depth-low program safe a (c .depth) e s)
+      (room program safe a (c .depth) e s)
+      (λ q. let z = eqb-false (c .depth) 0 (entry program safe a (c .depth) e s q) in omega (arith, z)))
+
   pub step-fine : (p : Pins) → Fine program p x
   step-fine p =
       let g = step-good p .listed in
@@ -234,6 +243,7 @@ module _ (program : List ℕ) (safe : Safe (wayAt program)) (x : State) (s : Sta
         inside = through program safe a (c .depth) (x .entries) s .inside;
         known = λ e. false≢true (sym (known r g) ∙ ap isUnknown e);
         obeyed = λ t. turned r t g;
+        goes = step-goes p;
         listed = g;
       }
 

@@ -1,2 +1,4 @@
 pub mod Checks
 pub mod Runs
+pub mod Replies
+pub mod Rows

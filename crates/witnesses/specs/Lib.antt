@@ -1,3 +1,5 @@
 pub mod Programs
 pub mod Checks
 pub mod Runs
+pub mod Replies
+pub mod Rows

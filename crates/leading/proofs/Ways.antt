@@ -26,6 +26,7 @@ use Rattle.points.specs.declared.Way.the-variants.{Bad, Nowhere, To, Both}
 use Rattle.points.proofs.Ways.{isBad, all-points}
 use Rattle.leading.specs.Leading.{byDepth, recordStatus, statusAt, next, target, onward, unlessBad, wayAt}
 use Rattle.leading.specs.Laws.{Laws}
+use Rattle.leading.proofs.OnePaths.{one-paths}
 
 -- ---- ways that are not bad
 onward-not-bad : (r : Command) (p : Point) → isBad (onward r p) ≡ false
@@ -145,4 +146,5 @@ laws =
       status-bad = status-bad;
       leads-in = leads-in;
       reached-in = λ program p. reached-in program;
+      one-paths = λ program. one-paths (wayAt program);
     }

@@ -9,6 +9,8 @@ use Rattle.points.specs.Reach.{Leads, Reach}
 use Rattle.points.specs.declared.Point.{Point}
 use Rattle.points.specs.declared.Way.the-variants.{Bad}
 use Rattle.leading.specs.Leading.{statusAt, wayAt}
+use Rattle.leading.specs.Depths.{AtEach}
+use Rattle.leading.specs.declared.Paths.{Paths}
 
 pub record Laws : Type 0 where
   -- a point is bad exactly if its status is not 100, and that is the status that it is bad with
@@ -17,3 +19,5 @@ pub record Laws : Type 0 where
   -- points lead to points, so all that are reached are points
   pub leads-in : (program : List ℕ) (p q : Point) → IsPoint p → Leads (wayAt program p) q → IsPoint q
   pub reached-in : (program : List ℕ) (p : Point) → Reach (wayAt program) p → IsPoint p
+  -- what the points of an address lead to, all depths together, is one answer
+  pub one-paths : (program : List ℕ) (a : ℕ) (x y : Paths) → AtEach (wayAt program) a x → AtEach (wayAt program) a y → x ≡ y

@@ -1,7 +1,8 @@
 // The image of the registers: 137 numbers of 32 bits that the caller lends, each at its place.
 //
-// Every register is read and written here and nowhere else. A contract speaks of the registers that the
-// image stands for (`specs/Image.antt`), so that no caller sees a place.
+// Every register is read and written here. Two crates know places by number beside it: `reg_range`, which
+// looks at all of them at once, and `board_events`, whose power-up clears them all. A contract speaks of the
+// registers that the image stands for (`specs/Image.antt`), so that no other caller sees a place.
 mod lists;
 mod place;
 mod scalars;

@@ -2,6 +2,8 @@
 //
 // A word that is asked for stands behind one space. Where it cannot be read, the place that it ends at
 // is 0, where no word ends.
+ghost use Rattle.text.specs.Laws.{Laws};
+
 mod print;
 mod scan;
 
@@ -16,3 +18,8 @@ pub use scan::behind_space;
 pub use scan::bytes_at;
 pub use scan::number_at;
 pub use scan::numbers_at;
+
+// The laws of numbers in a text, held to be proved: the function does nothing.
+pub fn laws()
+    ensures { λ _. ⌜ Laws ⌝ }
+{}

@@ -2,7 +2,14 @@
 //
 // A number fits a signed 64-bit one; digits have no sign but a minus. The digits of bytes are small,
 // and no bytes at all are a minus.
+ghost use mathlib.Core.Path.{_≡_};
 ghost use Prim.Native.Nat.{_≤_};
+ghost use mathlib.Core.Bool.{false};
+ghost use lib.ListN.{drop};
+ghost use Rattle.text.specs.Line.{behindSpace};
+ghost use Rattle.text.specs.Numbers.{isDigit, noNumber, fitting, numberAt, isUpTo, isWord, wordOf, rowAt, RowRead};
+ghost use Rattle.text.specs.Hex.{digitValue, hexAt, pairsOf, Took};
+ghost use Rattle.text.specs.Beneath.{grown, speltAt};
 use words::Word;
 
 // A number by its sign and its size, and where it ends.
@@ -31,17 +38,21 @@ const MOST_BUT_ONE: u64 = 922337203685477580;
 const LOWEST: u64 = 9223372036854775808;
 
 fn wide(b: u8) -> u64
-    ensures { λ r. ⌜ r ≤ 255 ⌝ }
+    ensures { λ r. ⌜ (r ≡ b) × (r ≤ 255) ⌝ }
 {
     b as u64
 }
 
-fn is_digit(b: u8) -> bool {
+fn is_digit(b: u8) -> bool
+    ensures { λ r. ⌜ r ≡ isDigit b ⌝ }
+{
     48 <= b && b <= 57
 }
 
 // A number with one digit more. One that grows too large stays so, and is refused for its size.
-fn grown(n: u64, b: u8) -> u64 {
+fn grown(n: u64, b: u8) -> u64
+    ensures { λ r. ⌜ r ≡ grown n b ⌝ }
+{
     if MOST_BUT_ONE < n {
         return u64::MAX;
     }
@@ -51,7 +62,9 @@ fn grown(n: u64, b: u8) -> u64 {
     n * 10 + wide(b - 48)
 }
 
-fn digits(line: &[u8], from: usize) -> Spelt {
+fn digits(line: &[u8], from: usize) -> Spelt
+    ensures { λ r. ⌜ r ≡ speltAt (now (line .entry)) from ⌝ }
+{
     let mut size = 0u64;
     let mut at = from;
     while at < line.len() {
@@ -68,7 +81,9 @@ fn digits(line: &[u8], from: usize) -> Spelt {
     }
 }
 
-fn nothing() -> Number {
+fn nothing() -> Number
+    ensures { λ r. ⌜ r ≡ noNumber ⌝ }
+{
     Number {
         minus: false,
         size: 0,
@@ -77,7 +92,9 @@ fn nothing() -> Number {
 }
 
 // Behind a space at a place: 0 where none is there.
-pub fn behind_space(line: &[u8], at: usize) -> usize {
+pub fn behind_space(line: &[u8], at: usize) -> usize
+    ensures { λ r. ⌜ r ≡ behindSpace (now (line .entry)) at ⌝ }
+{
     if line.len() <= at {
         return 0;
     }
@@ -85,7 +102,9 @@ pub fn behind_space(line: &[u8], at: usize) -> usize {
 }
 
 // A number of so many digits from a place on, where there is one and it fits.
-fn fitting(minus: bool, start: usize, read: Spelt) -> Number {
+fn fitting(minus: bool, start: usize, read: Spelt) -> Number
+    ensures { λ r. ⌜ r ≡ fitting minus start (read .size) (read .next) ⌝ }
+{
     let next = read.next;
     let size = read.size;
     if next == start {
@@ -107,7 +126,9 @@ fn fitting(minus: bool, start: usize, read: Spelt) -> Number {
 }
 
 // The number behind a space at a place.
-pub fn number_at(line: &[u8], at: usize) -> Number {
+pub fn number_at(line: &[u8], at: usize) -> Number
+    ensures { λ r. ⌜ r ≡ numberAt (now (line .entry)) at ⌝ }
+{
     let from = behind_space(line, at);
     if from == 0 {
         return nothing();
@@ -124,7 +145,9 @@ pub fn number_at(line: &[u8], at: usize) -> Number {
 
 impl Number {
     // Whether the number is one from 0 to a highest.
-    pub fn is_up_to(self, most: u64) -> bool {
+    pub fn is_up_to(self, most: u64) -> bool
+        ensures { λ r. ⌜ r ≡ isUpTo most self ⌝ }
+    {
         if self.minus {
             return self.size == 0;
         }
@@ -132,7 +155,9 @@ impl Number {
     }
 
     // Whether a signed 32-bit word holds the number.
-    pub fn is_word(self) -> bool {
+    pub fn is_word(self) -> bool
+        ensures { λ r. ⌜ r ≡ isWord self ⌝ }
+    {
         if self.minus {
             return self.size <= 2147483648;
         }
@@ -140,7 +165,9 @@ impl Number {
     }
 
     // The word that has the number's last 32 bits: the number, where a word holds it.
-    pub fn word(self) -> Word {
+    pub fn word(self) -> Word
+        ensures { λ r. ⌜ r ≡ wordOf self ⌝ }
+    {
         let bits = self.size % 4294967296;
         if self.minus {
             return words::of_bits(((4294967296 - bits) % 4294967296) as u32);
@@ -150,7 +177,9 @@ impl Number {
 }
 
 // So many words in decimal from a place on, sixteen at most. Answers where they end.
-pub fn numbers_at(line: &[u8], from: usize, count: usize, out: &mut [i32; 16]) -> usize {
+pub fn numbers_at(line: &[u8], from: usize, count: usize, out: &mut [i32; 16]) -> usize
+    ensures { λ r. ⌜ RowRead (rowAt (now (line .entry)) from count (now (out .entry))) r (now (out .exit)) ⌝ }
+{
     let mut at = from;
     let mut i = 0;
     while i < 16 {
@@ -175,7 +204,7 @@ pub fn numbers_at(line: &[u8], from: usize, count: usize, out: &mut [i32; 16]) -
 
 // What a hex digit counts for: 16 where the byte is none.
 fn digit(b: u8) -> u8
-    ensures { λ r. ⌜ r ≤ 16 ⌝ }
+    ensures { λ r. ⌜ (r ≡ digitValue b) × (r ≤ 16) ⌝ }
 {
     if b < 48 {
         return 16;
@@ -193,7 +222,7 @@ fn digit(b: u8) -> u8
 }
 
 fn no_bytes() -> Bytes
-    ensures { λ r. ⌜ r .count ≤ 64 ⌝ }
+    ensures { λ r. ⌜ r ≡ record { count = 0; read = false } ⌝ }
 {
     Bytes {
         count: 0,
@@ -203,7 +232,7 @@ fn no_bytes() -> Bytes
 
 // The bytes that the pairs of digits from a place to the line's end make.
 fn pairs(line: &[u8], from: usize, out: &mut [u8; 64]) -> Bytes
-    ensures { λ r. ⌜ r .count ≤ 64 ⌝ }
+    ensures { λ r. ⌜ Took (pairsOf (drop from (now (line .entry))) 0 (now (out .entry))) r (now (out .exit)) ⌝ }
 {
     let mut at = from;
     let mut count = 0;
@@ -234,7 +263,7 @@ fn pairs(line: &[u8], from: usize, out: &mut [u8; 64]) -> Bytes
 
 // The bytes behind a space at a place, 64 at most, which are the last word of the line.
 pub fn bytes_at(line: &[u8], at: usize, out: &mut [u8; 64]) -> Bytes
-    ensures { λ r. ⌜ r .count ≤ 64 ⌝ }
+    ensures { λ r. ⌜ Took (hexAt (now (line .entry)) at (now (out .entry))) r (now (out .exit)) ⌝ }
 {
     let from = behind_space(line, at);
     if from == 0 {

@@ -1,1 +1,5 @@
 pub mod Places
+pub mod Counts
+pub mod Regroup
+pub mod Wider
+pub mod Scalars

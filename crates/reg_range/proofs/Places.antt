@@ -5,12 +5,15 @@ use native.Mathlib.Omega.{arith}
 use mathlib.Core.Path.{_≡_, refl, sym, ap, _∙_}
 use mathlib.Core.Bool.{Bool, true, _&&_}
 use mathlib.Core.List.{List, [], _∷_, map}
-use lib.IntN.{ℤ}
+use lib.Dec.{leb}
+use lib.IntN.{ℤ, pos}
 use lib.ListN.{length, getD, take, drop}
 use lib.Seq.{drop-cons}
 use Rattle.words.specs.Word.{ofBits}
-use Rattle.ranges.specs.Range.{every}
-use Rattle.reg_image.specs.Image.{part, words, Kind, takes, kinds, all, shaped}
+use Rattle.words.proofs.Bools.{and-assoc, and-true}
+use Rattle.order.specs.Order.{inRange}
+use Rattle.ranges.specs.Range.{every, bitInRange}
+use Rattle.reg_image.specs.Image.{part, words, Kind, comparison, takes, kinds, all, shaped}
 
 -- ---- each from a place on is of its kind
 abbrev pub kindsAt : List Kind → List ℕ → ℕ → Bool

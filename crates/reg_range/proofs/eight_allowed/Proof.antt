@@ -1,16 +1,12 @@
 -- `reg_range::eight_allowed` meets its contract. Assumes nothing.
-use Rattle.sheet.specs.Rows.{rows}
-use Rattle.values.specs.Values.{allowedAt}
-use Rattle.values.proofs.Scan.{eight-found}
-use Rattle.reg_image.specs.Image.{registersOf}
+use Rattle.reg_range.proofs.Counts.{counts-as, same-eight}
 use borrow.Author.Needs.{needs}
 use Rattle.reg_range.proofs.eight_allowed.Statement.{statement}
 use Rattle.reg_range.proofs.eight_allowed.Tie as tie
 
 returns : tie.Need-returns
 returns c =
-    let x = c .before .before .before .before .before .before .before .before .args in
-    eight-found (allowedAt rows (registersOf (x .image .now) .values)) (x .place) (c .before .before .before .before .before .before .before .allowed-at .ensures) (c .before .before .before .before .before .before .allowed-at2 .ensures) (c .before .before .before .before .before .allowed-at3 .ensures) (c .before .before .before .before .allowed-at4 .ensures) (c .before .before .before .allowed-at5 .ensures) (c .before .before .allowed-at6 .ensures) (c .before .allowed-at7 .ensures) (c .allowed-at8 .ensures)
+    counts-as (c .eight .ensures) (same-eight (c .before .before .before .before .before .before .before .before .allowed-at .ensures) (c .before .before .before .before .before .before .before .allowed-at2 .ensures) (c .before .before .before .before .before .before .allowed-at3 .ensures) (c .before .before .before .before .before .allowed-at4 .ensures) (c .before .before .before .before .allowed-at5 .ensures) (c .before .before .before .allowed-at6 .ensures) (c .before .before .allowed-at7 .ensures) (c .before .allowed-at8 .ensures))
 
 pub eight-allowed-spec : {M : Type 1} → statement M
-eight-allowed-spec = tie.close (tie.spec (λ c. search needs) (λ c κs. search needs) (λ c. search needs) (λ c κs. search needs) (λ c. search needs) (λ c κs. search needs) (λ c. search needs) (λ c κs. search needs) (λ c. search needs) (λ c κs. search needs) (λ c. search needs) (λ c κs. search needs) (λ c. search needs) (λ c κs. search needs) (λ c κs. search needs) returns)
+eight-allowed-spec = tie.close (tie.spec (λ c. search needs) (λ c κs. search needs) (λ c. search needs) (λ c κs. search needs) (λ c. search needs) (λ c κs. search needs) (λ c. search needs) (λ c κs. search needs) (λ c. search needs) (λ c κs. search needs) (λ c. search needs) (λ c κs. search needs) (λ c. search needs) (λ c κs. search needs) (λ c κs. search needs) (λ c κs. search needs) returns)

@@ -18,7 +18,7 @@ use Rattle.rules.specs.Assigning.{assign, take, keep}
 use Rattle.status.specs.Status.{isDone, isUnknown}
 use Rattle.status.specs.declared.Status.{Status}
 use Rattle.status.specs.declared.Status.the-variants.{Value, Locked}
-use Rattle.judge.specs.Judge.{judged, isFlow, isReading}
+use Rattle.judge.specs.Judge.{judged, numbered, isFlow, isReading}
 use Rattle.registers.specs.declared.Order.the-variants.{Velocity}
 use Rattle.rules.specs.Motion.{parameter, withinLimit, rightWithin, leftWithin, isWord, moveBy, moveTo}
 use Rattle.rules.specs.Reading.{read}
@@ -29,7 +29,6 @@ use Rattle.board.specs.declared.Registers.{Registers}
 use Rattle.cmd_turns.specs.Turn.{Turn, work, through, turned}
 use Rattle.cmd_turns.specs.declared.Deed.the-variants.{Refused, Number, Order, Move, Set}
 use Rattle.cmd_turns.specs.Deed.{doing}
-use Rattle.cmd_turns.specs.Decides.{numbered}
 use Rattle.cmd_turns.proofs.Decides.{known, refuses, passes}
 use Rattle.cmd_axis.proofs.Rows.{position-place}
 

@@ -9,12 +9,11 @@ use Rattle.wire.specs.declared.Command.{Command}
 use Rattle.status.specs.Status.{isDone, isUnknown, inOrder}
 use Rattle.status.specs.declared.Status.{Status}
 use Rattle.status.specs.declared.Status.the-variants as status
-use Rattle.judge.specs.Judge.{judged}
+use Rattle.judge.specs.Judge.{judged, numbered}
 use Rattle.board.specs.declared.Registers.{Registers}
 use Rattle.cmd_turns.specs.declared.Deed.the-variants.{Refused, Dropped}
 use Rattle.cmd_turns.specs.Turn.{turned, through}
 use Rattle.cmd_turns.specs.Deed.{doing}
-use Rattle.cmd_turns.specs.Decides.{numbered}
 
 -- no order of refusals has 2 in it
 pub known : (a b c d e : Bool) → isUnknown (inOrder a b c d e) ≡ false

@@ -58,6 +58,10 @@ judged c =
     (pick (eqb (c .number) 36) (cle c)
     Unknown)))))))))))))))))))))))))
 
+-- the command of a number with these fields
+abbrev pub numbered : ℕ → Command → Command
+numbered n c = record { number = n; kind = c .kind; motor = c .motor; value = c .value }
+
 -- "21 JC, 22 JA, 23 CSUB, 24 RSUB, 27 WAIT, 28 STOP"
 unfoldable pub isFlow : ℕ → Bool
 isFlow n =

@@ -51,9 +51,5 @@ onward r p =
 abbrev pub unlessBad : Status → Way → Way
 unlessBad s w = pick (isDone s) w (Bad s)
 
--- a record that the judge lets through
-abbrev pub wayOf : Command → Point → Way
-wayOf r p = unlessBad (byDepth r p) (onward r p)
-
 unfoldable pub wayAt : List ℕ → Point → Way
 wayAt program p = unlessBad (statusAt program p) (onward (recordAt program (p .address)) p)

@@ -1,7 +1,6 @@
 pub mod Stack
 pub mod Keeps
 pub mod Goings
-pub mod Decides
 pub mod Facts
 pub mod Runs
 pub mod Ends

@@ -13,7 +13,7 @@ use Rattle.status.specs.declared.Status.{Status}
 use Rattle.status.specs.declared.Status.the-variants.{Done, Unavailable}
 use Rattle.sheet.specs.Places.{globalIn}
 use Rattle.fields.specs.Fields as fields
-use Rattle.judge.specs.Judge.{judged, isFlow, isReading}
+use Rattle.judge.specs.Judge.{judged, numbered, isFlow, isReading}
 use Rattle.rules.specs.Reading.{read, global}
 use Rattle.rules.specs.Direct.{directed}
 use Rattle.rules.specs.Outcome.{Changed, changed, done, refused}
@@ -22,7 +22,6 @@ use Rattle.board.specs.declared.Registers.{Registers}
 use Rattle.reg_image.specs.Image.{registersOf}
 use Rattle.cmd_turns.specs.declared.Obeyed.{Obeyed}
 use Rattle.cmd_turns.specs.Obeys.{Obeys}
-use Rattle.cmd_turns.specs.Decides.{numbered}
 use Rattle.machine.specs.Direct as spec
 
 -- an answer that leaves image and store

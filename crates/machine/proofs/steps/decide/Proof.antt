@@ -5,10 +5,10 @@ use borrow.Author.Tests.{ne-eqb}
 use Rattle.wire.specs.Frame.{commandAt}
 use Rattle.wire.specs.declared.Command.{Command}
 use Rattle.judge.specs.Judge.{judged, isFlow}
+use Rattle.judge.proofs.Numbered.{told}
 use Rattle.reg_image.specs.Image.{registersOf}
 use Rattle.cmd_turns.specs.Turn.{turned, through, flowed}
 use Rattle.cmd_turns.specs.Deed.{doing, seen}
-use Rattle.machine.proofs.Decides.{told}
 use borrow.Author.Needs.{needs}
 use Rattle.machine.proofs.steps.decide.Statement.{statement}
 use Rattle.machine.proofs.steps.decide.Tie as tie

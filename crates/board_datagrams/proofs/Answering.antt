@@ -7,7 +7,7 @@ use lib.Dec.{T}
 use Rattle.wire.specs.declared.Command.{Command}
 use Rattle.status.specs.Status.{numberOf}
 use Rattle.rules.specs.Obey.{obeyed}
-use Rattle.replying.specs.Reply.{byteOf, addresses, replied}
+use Rattle.replying.specs.Reply.{byteOf, addresses, replied, Replies}
 use Rattle.replying.specs.declared.Addresses.{Addresses}
 use Rattle.serial.specs.Serial.{takenOf}
 use Rattle.serial.specs.declared.Taken.{Taken}
@@ -25,16 +25,16 @@ module _ (l p m b : List ℕ) where
 
   -- ---- a command
   pub replies : (c : Command) (from : Addresses) (o : Obeyed) (n : ℕ) (k p' m' b' : List ℕ)
-      → from ≡ addresses (registersOf l .values) → Does (obeyed c (registersOf l) p m) l o k p' m' → b' ≡ replied b from (o .status) (c .number) (o .value)
-      → n ≡ numberOf (o .status) → Gives (obeyedBy c x) l n k p' m' b'
+      → from ≡ addresses (registersOf l .values) → Does (obeyed c (registersOf l) p m) l o k p' m' → Replies from (o .status) (c .number) (o .value) b n b'
+      → Gives (obeyedBy c x) l n k p' m' b'
   unfolding obeyedBy
-  replies c from o n k p' m' b' f d g h =
+  replies c from o n k p' m' b' f d g =
       record {
-        status = h ∙ ap numberOf (d .status);
+        status = g .status ∙ ap numberOf (d .status);
         makes = d .makes;
         program = d .program;
         cells = d .store;
-        reply = g ∙ (rw (f, d .status, d .value) refl);
+        reply = g .reply ∙ (rw (f, d .status, d .value) refl);
         stays = d .stays;
       }
 

@@ -5,10 +5,9 @@ use mathlib.Core.Bool.{true, false, _&&_}
 use mathlib.Core.List.{List}
 use lib.IntN.{pos}
 use Rattle.words.specs.Word.{pick, word}
-use Rattle.status.specs.Status.{numberOf}
 use Rattle.status.specs.declared.Status.the-variants.{Checksum}
 use Rattle.serial.specs.Serial.{takenOf}
-use Rattle.replying.specs.Reply.{byteOf, addresses, replied}
+use Rattle.replying.specs.Reply.{byteOf, addresses, Replies}
 use Rattle.rules.specs.Datagram.{After, board, unchanged, received, lent}
 use Rattle.reg_image.specs.Image.{registersOf, shaped}
 use Rattle.reg_range.specs.Range.{stands}
@@ -39,6 +38,5 @@ pub record Answers (bytes l p m b : List ℕ) (n : ℕ) (k p' m' b' : List ℕ) 
   pub kept : (lent p m b && stands l) ≡ false → k ≡ l
 
 -- a damaged frame's reply
-pub record Refuses (l b : List ℕ) (number n : ℕ) (b' : List ℕ) : Type 0 where
-  pub status : n ≡ numberOf Checksum
-  pub reply : b' ≡ replied b (addresses (registersOf l .values)) Checksum number (word (pos 0))
+abbrev pub Refuses : List ℕ → List ℕ → ℕ → ℕ → List ℕ → Type 0
+Refuses l b number n b' = Replies (addresses (registersOf l .values)) Checksum number (word (pos 0)) b n b'

@@ -31,8 +31,7 @@ fn answer(
     let obeyed = obey(image, program, cells, c, frame);
     let status = obeyed.status;
     let value = obeyed.value;
-    replying::reply_with(reply, from, status, c.number, value);
-    status.number()
+    replying::reply_with(reply, from, status, c.number, value)
 }
 
 // A damaged frame: value 0, and nothing changes but the reply.
@@ -40,9 +39,7 @@ fn refuse(image: &[u32; REGISTERS], reply: &mut [u8], number: u8) -> u8
     ensures { λ r. ⌜ spec.Refuses (now (image .entry)) (now (reply .entry)) number r (now (reply .exit)) ⌝ }
 {
     let from = addresses(image);
-    let status = Status::Checksum;
-    replying::reply_with(reply, from, status, number, Word { v: 0 });
-    status.number()
+    replying::reply_with(reply, from, Status::Checksum, number, Word { v: 0 })
 }
 
 // Nothing of ours, damaged, or a command.

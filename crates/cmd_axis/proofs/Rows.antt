@@ -25,10 +25,6 @@ pub actual-place : axisPlace 52 ≡ 9
 unfolding axis rweRows rwRows rRows
 actual-place = refl
 
-pub lock-place : bankPlace 0 73 ≡ 44
-unfolding bankPlace axis globals readOnly rweRows rwRows rRows
-lock-place = refl
-
 -- a cell's number is at most the place
 one-more : (b : Bool) (x : Row) (l : List Row) (n : ℕ) → length l ≤ n → length (pick b (x ∷ l) l) ≤ suc n
 one-more true x l n h = omega arith

@@ -20,6 +20,7 @@ use Rattle.sheet.proofs.Rules.{user-variable}
 use Rattle.values.specs.Values.{valueAt}
 use Rattle.settings.specs.Settings.{bankPlace, settable, kept, isGlobal, guarded, locked}
 use Rattle.settings.proofs.Counts.{axis-rows, parameter-rows, global-rows, place-low}
+use Rattle.settings.proofs.Users.{global-place, other-bank, lock-place, user-row}
 use Rattle.status.specs.declared.Status.the-variants.{Locked}
 use Rattle.fields.specs.Fields.{takes}
 use Rattle.registers.specs.declared.Core.{Core}
@@ -30,24 +31,10 @@ use Rattle.board.specs.declared.Registers.{Registers}
 use Rattle.cmd_turns.specs.declared.Deed.{Deed}
 use Rattle.cmd_turns.specs.declared.Deed.the-variants.{Refused, Set, Global}
 use Rattle.cmd_turns.specs.Deed.{doing}
-use Rattle.rules.proofs.Users.{user-row}
 use Rattle.cmd_axis.proofs.Carries.{carried}
-use Rattle.cmd_axis.proofs.Rows.{position-place, lock-place}
+use Rattle.cmd_axis.proofs.Rows.{position-place}
 
 -- ---- places
-pub user-place : (n : ℕ) → bankPlace 2 n ≡ 47 + n
-unfolding bankPlace
-user-place n = rw parameter-rows
-
-pub global-place : (n : ℕ) → bankPlace 0 n ≡ 43 + globalIn n
-unfolding bankPlace
-global-place n = rw axis-rows
-
--- every bank but 2 is the globals'
-pub other-bank : (bank n : ℕ) → (bank ≡ 2 → ⊥) → bankPlace bank n ≡ bankPlace 0 n
-unfolding bankPlace
-other-bank bank n h = rw (ne-eqb bank 2 h)
-
 pub global-low : (n : ℕ) → bankPlace 0 n < 256
 global-low n = omega (arith, global-place n, place-low (globals ++ readOnly) n, global-rows)
 
@@ -61,10 +48,6 @@ unfolding takes
 takes-global bank n e h = ltb-true (globalIn n) 4 (rw (ne-eqb bank 2 e) at h)
 
 -- ---- user variables
-pub user-settable : (n : ℕ) (z : ℤ) → SFits w32 z → settable (47 + n) z ≡ true
-unfolding settable
-user-settable n z f = simp (lock-place, ne-eqb (47 + n) 44 (λ e. omega (arith, e)), user-row n, user-variable z f)
-
 pub user-assigned : (n : ℕ) (w : Word) (values : List ℤ) → assign (47 + n) w values ≡ effect.Set (47 + n) w
 unfolding assign isGlobal
 user-assigned n w values =

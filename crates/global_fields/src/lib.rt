@@ -34,11 +34,15 @@ fn takes(bank: u8, number: u8) -> bool
     }
 }
 
+// A user variable takes every word.
 pub fn sgp(c: Command) -> Status
     ensures { λ r. ⌜ r ≡ spec.sgp c ⌝ }
 {
     let bank = c.motor;
     let kind = c.kind;
+    if bank == 2 {
+        return by_bytes(true, takes(2, kind), true);
+    }
     let value = settings::settable(settings::bank_place(bank, kind), c.value);
     by_bytes(is_bank(bank), takes(bank, kind), value)
 }

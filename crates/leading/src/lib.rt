@@ -30,37 +30,32 @@ pub enum Paths {
 fn unless_refused(status: Status, onward: Paths) -> Paths
     ensures { λ r. ⌜ r ≡ spec.unlessRefused status onward ⌝ }
 {
-    if status.is_done() { onward } else { Paths::Bad(status) }
+    if status.is_done() {
+        onward
+    } else {
+        Paths::Bad(status)
+    }
 }
 
 // JC.
 fn branch(c: Command, next: u16) -> Paths
     ensures { λ r. ⌜ r ≡ spec.branching c next ⌝ }
 {
-    unless_refused(
-        target_fields::jc(c),
-        Paths::Both(address_of(c.value), next),
-    )
+    unless_refused(target_fields::jc(c), Paths::Both(address_of(c.value), next))
 }
 
 // JA.
 fn jump(c: Command) -> Paths
     ensures { λ r. ⌜ r ≡ spec.jumping c ⌝ }
 {
-    unless_refused(
-        target_fields::ja(c),
-        Paths::To(address_of(c.value)),
-    )
+    unless_refused(target_fields::ja(c), Paths::To(address_of(c.value)))
 }
 
 // CSUB.
 fn call(c: Command, next: u16) -> Paths
     ensures { λ r. ⌜ r ≡ spec.calling c next ⌝ }
 {
-    unless_refused(
-        target_fields::ja(c),
-        Paths::Call(address_of(c.value), next),
-    )
+    unless_refused(target_fields::ja(c), Paths::Call(address_of(c.value), next))
 }
 
 // Where the record at an address leads. What the arm of its number needs is read in the arm.

@@ -1,5 +1,6 @@
 -- The nine bytes of a reply to a command, and the two addresses that it is sent from and to.
 use Prim.Native.Nat.{ℕ}
+use mathlib.Core.Path.{_≡_}
 use mathlib.Core.List.{List}
 use lib.Dec.{eqb}
 use lib.IntN.{ℤ}
@@ -28,3 +29,8 @@ frameOf a s n w =
 
 unfoldable pub replied : List ℕ → Addresses → Status → ℕ → Word → List ℕ
 replied b a s n w = pick (eqb (length b) 9) (frameOf a s n w) b
+
+-- what answering a command leaves in the lent buffer, and the number it is answered with
+pub record Replies (a : Addresses) (s : Status) (n : ℕ) (w : Word) (b : List ℕ) (r : ℕ) (e : List ℕ) : Type 0 where
+  pub status : r ≡ numberOf s
+  pub reply : e ≡ replied b a s n w

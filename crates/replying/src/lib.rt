@@ -11,18 +11,20 @@ pub struct Addresses {
     pub module_address: u8,
 }
 
-// Writes a reply of nine bytes.
-pub fn reply_with(reply: &mut [u8], from: Addresses, status: Status, number: u8, value: Word)
-    ensures { λ _. ⌜ now (reply .exit) ≡ spec.replied (now (reply .entry)) from status number value ⌝ }
+// Writes a reply of nine bytes, and answers the number of the status.
+pub fn reply_with(reply: &mut [u8], from: Addresses, status: Status, number: u8, value: Word) -> u8
+    ensures { λ r. ⌜ spec.Replies from status number value (now (reply .entry)) r (now (reply .exit)) ⌝ }
 {
+    let told = status.number();
     serial::put_reply(
         reply,
         Reply {
             reply_address: from.reply_address,
             module_address: from.module_address,
-            status: status.number(),
+            status: told,
             command: number,
             value: value,
         },
     );
+    told
 }

@@ -4,10 +4,8 @@ use native.Mathlib.Omega.{arith}
 use mathlib.Core.Path.{_≡_, sym, ap, _∙_}
 use mathlib.Core.List.{List, _++_}
 use lib.ListN.{getD, replicate}
-use lib.Seq.{getD-append-add}
 use mir.Syntax.{w32}
 use mir.Val.{SFits}
-use Rattle.words.proofs.Lists.{all-same}
 use Rattle.rows.specs.Row.{taken}
 use Rattle.sheet.specs.Sheet.{userRow}
 use Rattle.sheet.specs.Rows.{parameters, rows, rowAt, cellOf}
@@ -15,14 +13,7 @@ use Rattle.sheet.proofs.Cells.{user-cell}
 use Rattle.sheet.proofs.Rules.{user-variable}
 use Rattle.store.specs.Store.{cellAt}
 use Rattle.values.specs.Values.{poweredAt}
-use Rattle.settings.proofs.Counts.{parameter-rows}
-
-pub user-row : (n : ℕ) → rowAt rows (47 + n) ≡ userRow
-unfolding rows
-user-row n =
-    ap (λ (k : ℕ). getD (parameters ++ replicate 56 userRow) (k + n) userRow) (sym parameter-rows)
-    ∙ getD-append-add parameters (replicate 56 userRow) n userRow
-    ∙ all-same userRow 56 n
+use Rattle.settings.proofs.Users.{user-row}
 
 pub cell-of-user : (n : ℕ) → n < 56 → 35 + n ≡ cellOf rows (47 + n)
 cell-of-user n h = let e : 35 + n ≡ 47 + n - 12 = omega arith in e ∙ user-cell (47 + n) (omega arith) (omega arith)

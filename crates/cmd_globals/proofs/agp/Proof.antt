@@ -17,7 +17,8 @@ use Rattle.cmd_turns.specs.declared.Deed.{Deed}
 use Rattle.cmd_turns.specs.declared.Deed.the-variants.{Set}
 use Rattle.cmd_turns.specs.Deed.{doing, seen}
 use Rattle.cmd_axis.proofs.Carries.{carries, refused, passed, right-type, taken, not-taken}
-use Rattle.cmd_globals.proofs.Users.{user-place, other-bank, takes-user, takes-global, user-settable, user-assigned, sets-global}
+use Rattle.settings.proofs.Users.{user-place, other-bank, user-settable}
+use Rattle.cmd_globals.proofs.Users.{takes-user, takes-global, user-assigned, sets-global}
 use borrow.Author.Needs.{needs}
 use Rattle.cmd_globals.proofs.agp.Statement.{statement}
 use Rattle.cmd_globals.proofs.agp.Tie as tie

@@ -18,7 +18,7 @@ use Rattle.cmd_turns.specs.declared.Deed.the-variants.{Set}
 use Rattle.cmd_turns.specs.Deed.{doing, seen}
 use Rattle.cmd_axis.proofs.Carries.{carries, refused, passed, right-motor, right-type}
 use Rattle.rules.proofs.Users.{user-powered}
-use Rattle.cmd_globals.proofs.Users.{user-place}
+use Rattle.settings.proofs.Users.{user-place}
 use borrow.Author.Needs.{needs}
 use Rattle.cmd_globals.proofs.rsgp.Statement.{statement}
 use Rattle.cmd_globals.proofs.rsgp.Tie as tie

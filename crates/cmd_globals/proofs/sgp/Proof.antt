@@ -15,7 +15,8 @@ use Rattle.cmd_turns.specs.declared.Deed.{Deed}
 use Rattle.cmd_turns.specs.declared.Deed.the-variants.{Set}
 use Rattle.cmd_turns.specs.Deed.{doing, seen}
 use Rattle.cmd_axis.proofs.Carries.{carries, refused, passed, right-type}
-use Rattle.cmd_globals.proofs.Users.{user-place, other-bank, takes-user, takes-global, user-assigned, sets-global}
+use Rattle.settings.proofs.Users.{user-place, other-bank}
+use Rattle.cmd_globals.proofs.Users.{takes-user, takes-global, user-assigned, sets-global}
 use borrow.Author.Needs.{needs}
 use Rattle.cmd_globals.proofs.sgp.Statement.{statement}
 use Rattle.cmd_globals.proofs.sgp.Tie as tie

@@ -6,7 +6,9 @@ use Rattle.replying.proofs.reply_with.Tie as tie
 
 returns : tie.Need-returns
 unfolding replied
-returns c = simp (← c .before .before .before .number .ensures) (c .before .before .put-reply .ensures .left)
+returns c =
+    let n = c .before .before .before .before .number in
+    record { status = n .ensures; reply = simp (← n .ensures) (c .before .before .put-reply .ensures .left) }
 
 pub reply-with-spec : {M : Type 1} → statement M
 reply-with-spec = tie.close (tie.spec (λ c κs. search needs) (λ c κs. search needs) (λ c. search needs) returns)

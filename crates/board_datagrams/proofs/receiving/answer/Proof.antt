@@ -6,14 +6,16 @@ use Rattle.board_datagrams.proofs.receiving.answer.Tie as tie
 
 returns : tie.Need-returns
 returns c r =
-    let x = c .before .before .before .before .before .before .before .before .before .before .before .before .before .before .before .before .before .before .before .before .args in
-    replies (x .image .now) (x .program .now) (x .cells .now) (x .reply .now) (x .c) _ _ _ _ _ _ _ (c .before .before .before .before .before .before .before .before .before .before .before .before .before .before .addresses .ensures) (c .before .before .before .before .before .before .before .before .before .before .obey .ensures r) (c .before .before .before .reply-with .ensures) (c .number .ensures)
+    let w = c .before .before in
+    let o = w .before .before .before .before .before .before .before in
+    let a = o .before .before .before .before in
+    let x = a .before .before .before .before .before .before .args in
+    replies (x .image .now) (x .program .now) (x .cells .now) (x .reply .now) (x .c) _ _ _ _ _ _ _ (a .addresses .ensures) (o .obey .ensures r) (w .reply-with .ensures)
 
 pub answer-spec : {M : Type 1} → statement M
 answer-spec =
     tie.close
     (tie.spec
-    (λ c κs. search needs)
     (λ c κs. search needs)
     (λ c κs. search needs)
     (λ c κs. search needs)

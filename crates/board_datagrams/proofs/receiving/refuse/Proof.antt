@@ -11,17 +11,18 @@ use Rattle.board_datagrams.proofs.receiving.refuse.Tie as tie
 
 returns : tie.Need-returns
 returns c =
-    let x = c .before .before .before .before .before .before .before .args in
+    let w = c .before .before in
+    let a = w .before .before in
+    let x = a .before .before .args in
     record {
-      status = c .number .ensures;
-      reply = c .before .before .before .reply-with .ensures ∙ ap (λ (a : Addresses). replied (x .reply .now) a Checksum (x .number) (word (pos 0))) (c .before .before .before .before .before .addresses .ensures);
+      status = w .reply-with .ensures .status;
+      reply = w .reply-with .ensures .reply ∙ ap (λ (a : Addresses). replied (x .reply .now) a Checksum (x .number) (word (pos 0))) (a .addresses .ensures);
     }
 
 pub refuse-spec : {M : Type 1} → statement M
 refuse-spec =
     tie.close
     (tie.spec
-    (λ c κs. search needs)
     (λ c κs. search needs)
     (λ c κs. search needs)
     (λ c. search needs)

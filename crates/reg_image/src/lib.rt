@@ -1,8 +1,9 @@
 // The image of the registers: 137 numbers of 32 bits that the caller lends, each at its place.
 //
-// Every register is read and written here. Two crates know places by number beside it: `reg_range`, which
-// looks at all of them at once, and `board_events`, whose power-up clears them all. A contract speaks of the
-// registers that the image stands for (`specs/Image.antt`), so that no other caller sees a place.
+// Every register is read and written here. Two crates know places beside it: `reg_range`, which looks at all of
+// them at once, by the names of `at`, and `board_events`, whose power-up clears them all. A contract speaks of
+// the registers that the image stands for (`specs/Image.antt`), so that no other caller sees a place.
+pub mod at;
 mod lists;
 mod place;
 mod scalars;

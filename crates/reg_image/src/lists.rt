@@ -10,30 +10,17 @@ ghost use Rattle.reg_image.specs.With as with;
 ghost use Rattle.reg_image.specs.Rows as rows;
 ghost use Rattle.reg_image.specs.Image.{registersOf, Leaves};
 use crate::REGISTERS;
+use crate::at;
 use crate::place::get;
 use crate::place::put;
 use words::Word;
-
-const OUTPUTS: usize = 16;
-
-const DIGITAL: usize = 20;
-
-const ANALOG: usize = 22;
-
-const DEPTH: usize = 25;
-
-const ENTRIES: usize = 26;
-
-const GLOBALS: usize = 34;
-
-const AXIS: usize = 94;
 
 // ---- what is read
 pub fn output(image: &[u32; REGISTERS], port: usize) -> u32
     ensures { λ r. ⌜ r ≡ pick (ltb port 4) (getD (registersOf (now (image .entry)) .outputs) port 0) 0 ⌝ }
 {
     if port < 4 {
-        get(image, OUTPUTS + port)
+        get(image, at::OUTPUTS + port)
     } else {
         0
     }
@@ -43,7 +30,7 @@ pub fn digital(image: &[u32; REGISTERS], port: usize) -> u32
     ensures { λ r. ⌜ r ≡ pick (ltb port 2) (getD (registersOf (now (image .entry)) .digital) port 0) 0 ⌝ }
 {
     if port < 2 {
-        get(image, DIGITAL + port)
+        get(image, at::DIGITAL + port)
     } else {
         0
     }
@@ -53,7 +40,7 @@ pub fn analog(image: &[u32; REGISTERS], port: usize) -> Word
     ensures { λ r. ⌜ r ≡ pick (ltb port 3) (word (getD (registersOf (now (image .entry)) .analog) port (pos 0))) (word (pos 0)) ⌝ }
 {
     if port < 3 {
-        words::of_bits(get(image, ANALOG + port))
+        words::of_bits(get(image, at::ANALOG + port))
     } else {
         Word { v: 0 }
     }
@@ -63,7 +50,11 @@ pub fn analog(image: &[u32; REGISTERS], port: usize) -> Word
 pub fn entry(image: &[u32; REGISTERS], at: usize) -> u32
     ensures { λ r. ⌜ r ≡ pick (ltb at 8) (getD (registersOf (now (image .entry)) .entries) at 0) 0 ⌝ }
 {
-    if at < 8 { get(image, ENTRIES + at) } else { 0 }
+    if at < 8 {
+        get(image, at::ENTRIES + at)
+    } else {
+        0
+    }
 }
 
 // A working value, by its place on the sheet: axis parameters, globals, user variables.
@@ -71,10 +62,10 @@ pub fn value(image: &[u32; REGISTERS], place: usize) -> Word
     ensures { λ r. ⌜ r ≡ valueAt (registersOf (now (image .entry)) .values) place ⌝ }
 {
     if place < 43 {
-        return words::of_bits(get(image, AXIS + place));
+        return words::of_bits(get(image, at::AXIS + place));
     }
     if place < 103 {
-        return words::of_bits(get(image, GLOBALS + (place - 43)));
+        return words::of_bits(get(image, at::GLOBALS + (place - 43)));
     }
     Word { v: 0 }
 }
@@ -84,7 +75,7 @@ pub fn set_output(image: &mut [u32; REGISTERS], port: usize, number: u32)
     ensures { λ _. ⌜ Leaves (rows.setOutput port number) (now (image .entry)) (now (image .exit)) ⌝ }
 {
     if port < 4 {
-        put(image, OUTPUTS + port, number);
+        put(image, at::OUTPUTS + port, number);
     }
 }
 
@@ -92,7 +83,7 @@ pub fn set_digital(image: &mut [u32; REGISTERS], port: usize, number: u32)
     ensures { λ _. ⌜ Leaves (rows.setDigital port number) (now (image .entry)) (now (image .exit)) ⌝ }
 {
     if port < 2 {
-        put(image, DIGITAL + port, number);
+        put(image, at::DIGITAL + port, number);
     }
 }
 
@@ -100,7 +91,7 @@ pub fn set_analog(image: &mut [u32; REGISTERS], port: usize, w: Word)
     ensures { λ _. ⌜ Leaves (rows.setAnalog port (w .v)) (now (image .entry)) (now (image .exit)) ⌝ }
 {
     if port < 3 {
-        put(image, ANALOG + port, words::bits_of(w));
+        put(image, at::ANALOG + port, words::bits_of(w));
     }
 }
 
@@ -108,7 +99,7 @@ pub fn set_entry(image: &mut [u32; REGISTERS], at: usize, number: u32)
     ensures { λ _. ⌜ Leaves (rows.setEntry at number) (now (image .entry)) (now (image .exit)) ⌝ }
 {
     if at < 8 {
-        put(image, ENTRIES + at, number);
+        put(image, at::ENTRIES + at, number);
     }
 }
 
@@ -116,7 +107,7 @@ pub fn set_entry(image: &mut [u32; REGISTERS], at: usize, number: u32)
 pub fn empty_stack(image: &mut [u32; REGISTERS])
     ensures { λ _. ⌜ Leaves rows.emptyStack (now (image .entry)) (now (image .exit)) ⌝ }
 {
-    put(image, DEPTH, 0);
+    put(image, at::DEPTH, 0);
     set_entry(image, 0, 0);
     set_entry(image, 1, 0);
     set_entry(image, 2, 0);
@@ -131,10 +122,10 @@ pub fn set_value(image: &mut [u32; REGISTERS], place: usize, w: Word)
     ensures { λ _. ⌜ Leaves (rows.setValueAt place (w .v)) (now (image .entry)) (now (image .exit)) ⌝ }
 {
     if place < 43 {
-        put(image, AXIS + place, words::bits_of(w));
+        put(image, at::AXIS + place, words::bits_of(w));
         return;
     }
     if place < 103 {
-        put(image, GLOBALS + (place - 43), words::bits_of(w));
+        put(image, at::GLOBALS + (place - 43), words::bits_of(w));
     }
 }

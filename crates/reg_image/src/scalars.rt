@@ -6,45 +6,12 @@ ghost use Rattle.reg_image.specs.With as with;
 ghost use Rattle.reg_image.specs.With.{inCore};
 ghost use Rattle.reg_image.specs.Image.{comparisonOf, orderOf, isOn, takes, bit, comparison, order, registersOf, Leaves};
 use crate::REGISTERS;
+use crate::at;
 use crate::place::put;
 use order::Compared;
 use registers::Order;
 use waits::Wait;
 use words::Word;
-
-const ACCUMULATOR: usize = 0;
-
-const X: usize = 1;
-
-const LAST: usize = 2;
-
-const ETO: usize = 3;
-
-const EAL: usize = 4;
-
-const EDV: usize = 5;
-
-const EPO: usize = 6;
-
-const ADDRESS: usize = 7;
-
-const RUNNING: usize = 8;
-
-const ARMED: usize = 9;
-
-const COUNT: usize = 10;
-
-const TIMED: usize = 11;
-
-const DOWNLOADING: usize = 12;
-
-const WRITE_ADDRESS: usize = 13;
-
-const ORDER: usize = 14;
-
-const VELOCITY: usize = 15;
-
-const DEPTH: usize = 25;
 
 // ---- numbers of the kinds that take not every one
 fn bit_number(on: bool) -> u32
@@ -97,214 +64,214 @@ fn order_of(number: u32) -> Order
 pub fn accumulator(image: &[u32; REGISTERS]) -> Word
     ensures { λ r. ⌜ r ≡ registersOf (now (image .entry)) .core .accumulator ⌝ }
 {
-    words::of_bits(image[ACCUMULATOR])
+    words::of_bits(image[at::ACCUMULATOR])
 }
 
 pub fn x(image: &[u32; REGISTERS]) -> Word
     ensures { λ r. ⌜ r ≡ registersOf (now (image .entry)) .core .x ⌝ }
 {
-    words::of_bits(image[X])
+    words::of_bits(image[at::X])
 }
 
 // The last comparison.
 pub fn last(image: &[u32; REGISTERS]) -> Compared
     ensures { λ r. ⌜ r ≡ registersOf (now (image .entry)) .core .last ⌝ }
 {
-    comparison_of(image[LAST])
+    comparison_of(image[at::LAST])
 }
 
 pub fn eto(image: &[u32; REGISTERS]) -> u32
     ensures { λ r. ⌜ r ≡ registersOf (now (image .entry)) .core .flags .eto ⌝ }
 {
-    image[ETO]
+    image[at::ETO]
 }
 
 pub fn eal(image: &[u32; REGISTERS]) -> u32
     ensures { λ r. ⌜ r ≡ registersOf (now (image .entry)) .core .flags .eal ⌝ }
 {
-    image[EAL]
+    image[at::EAL]
 }
 
 pub fn edv(image: &[u32; REGISTERS]) -> u32
     ensures { λ r. ⌜ r ≡ registersOf (now (image .entry)) .core .flags .edv ⌝ }
 {
-    image[EDV]
+    image[at::EDV]
 }
 
 pub fn epo(image: &[u32; REGISTERS]) -> u32
     ensures { λ r. ⌜ r ≡ registersOf (now (image .entry)) .core .flags .epo ⌝ }
 {
-    image[EPO]
+    image[at::EPO]
 }
 
 // The program address.
 pub fn address(image: &[u32; REGISTERS]) -> u32
     ensures { λ r. ⌜ r ≡ registersOf (now (image .entry)) .core .address ⌝ }
 {
-    image[ADDRESS]
+    image[at::ADDRESS]
 }
 
 pub fn running(image: &[u32; REGISTERS]) -> bool
     ensures { λ r. ⌜ r ≡ registersOf (now (image .entry)) .core .running ⌝ }
 {
-    image[RUNNING] == 1
+    image[at::RUNNING] == 1
 }
 
 // Whether a wait is armed, its count, and whether the value that it was armed with was above 0.
 pub fn armed(image: &[u32; REGISTERS]) -> bool
     ensures { λ r. ⌜ r ≡ registersOf (now (image .entry)) .core .wait .armed ⌝ }
 {
-    image[ARMED] == 1
+    image[at::ARMED] == 1
 }
 
 pub fn count(image: &[u32; REGISTERS]) -> u32
     ensures { λ r. ⌜ r ≡ registersOf (now (image .entry)) .core .wait .count ⌝ }
 {
-    image[COUNT]
+    image[at::COUNT]
 }
 
 pub fn timed(image: &[u32; REGISTERS]) -> bool
     ensures { λ r. ⌜ r ≡ registersOf (now (image .entry)) .core .wait .timed ⌝ }
 {
-    image[TIMED] == 1
+    image[at::TIMED] == 1
 }
 
 // Download mode.
 pub fn downloading(image: &[u32; REGISTERS]) -> bool
     ensures { λ r. ⌜ r ≡ registersOf (now (image .entry)) .download .on ⌝ }
 {
-    image[DOWNLOADING] == 1
+    image[at::DOWNLOADING] == 1
 }
 
 pub fn write_address(image: &[u32; REGISTERS]) -> u32
     ensures { λ r. ⌜ r ≡ registersOf (now (image .entry)) .download .address ⌝ }
 {
-    image[WRITE_ADDRESS]
+    image[at::WRITE_ADDRESS]
 }
 
 // The motion order.
 pub fn motion_order(image: &[u32; REGISTERS]) -> Order
     ensures { λ r. ⌜ r ≡ registersOf (now (image .entry)) .core .motion .order ⌝ }
 {
-    order_of(image[ORDER])
+    order_of(image[at::ORDER])
 }
 
 pub fn velocity(image: &[u32; REGISTERS]) -> Word
     ensures { λ r. ⌜ r ≡ registersOf (now (image .entry)) .core .motion .velocity ⌝ }
 {
-    words::of_bits(image[VELOCITY])
+    words::of_bits(image[at::VELOCITY])
 }
 
 // The depth of the call stack.
 pub fn depth(image: &[u32; REGISTERS]) -> u32
     ensures { λ r. ⌜ r ≡ registersOf (now (image .entry)) .core .depth ⌝ }
 {
-    image[DEPTH]
+    image[at::DEPTH]
 }
 
 // ---- what is written
 pub fn set_accumulator(image: &mut [u32; REGISTERS], w: Word)
     ensures { λ _. ⌜ Leaves (inCore (with.withAccumulator w)) (now (image .entry)) (now (image .exit)) ⌝ }
 {
-    put(image, ACCUMULATOR, words::bits_of(w));
+    put(image, at::ACCUMULATOR, words::bits_of(w));
 }
 
 pub fn set_x(image: &mut [u32; REGISTERS], w: Word)
     ensures { λ _. ⌜ Leaves (inCore (with.withX w)) (now (image .entry)) (now (image .exit)) ⌝ }
 {
-    put(image, X, words::bits_of(w));
+    put(image, at::X, words::bits_of(w));
 }
 
 pub fn set_last(image: &mut [u32; REGISTERS], last: Compared)
     ensures { λ _. ⌜ Leaves (inCore (withLast last)) (now (image .entry)) (now (image .exit)) ⌝ }
 {
-    put(image, LAST, comparison_number(last));
+    put(image, at::LAST, comparison_number(last));
 }
 
 pub fn set_eto(image: &mut [u32; REGISTERS], number: u32)
     ensures { λ _. ⌜ Leaves (inCore (with.withEto number)) (now (image .entry)) (now (image .exit)) ⌝ }
 {
-    put(image, ETO, number);
+    put(image, at::ETO, number);
 }
 
 pub fn set_eal(image: &mut [u32; REGISTERS], number: u32)
     ensures { λ _. ⌜ Leaves (inCore (with.withEal number)) (now (image .entry)) (now (image .exit)) ⌝ }
 {
-    put(image, EAL, number);
+    put(image, at::EAL, number);
 }
 
 pub fn set_edv(image: &mut [u32; REGISTERS], number: u32)
     ensures { λ _. ⌜ Leaves (inCore (with.withEdv number)) (now (image .entry)) (now (image .exit)) ⌝ }
 {
-    put(image, EDV, number);
+    put(image, at::EDV, number);
 }
 
 pub fn set_epo(image: &mut [u32; REGISTERS], number: u32)
     ensures { λ _. ⌜ Leaves (inCore (with.withEpo number)) (now (image .entry)) (now (image .exit)) ⌝ }
 {
-    put(image, EPO, number);
+    put(image, at::EPO, number);
 }
 
 pub fn set_address(image: &mut [u32; REGISTERS], number: u32)
     ensures { λ _. ⌜ Leaves (inCore (with.withAddress number)) (now (image .entry)) (now (image .exit)) ⌝ }
 {
-    put(image, ADDRESS, number);
+    put(image, at::ADDRESS, number);
 }
 
 pub fn set_running(image: &mut [u32; REGISTERS], on: bool)
     ensures { λ _. ⌜ Leaves (inCore (withRunning on)) (now (image .entry)) (now (image .exit)) ⌝ }
 {
-    put(image, RUNNING, bit_number(on));
+    put(image, at::RUNNING, bit_number(on));
 }
 
 // The count of a wait.
 pub fn set_count(image: &mut [u32; REGISTERS], number: u32)
     ensures { λ _. ⌜ Leaves (inCore (with.withCount number)) (now (image .entry)) (now (image .exit)) ⌝ }
 {
-    put(image, COUNT, number);
+    put(image, at::COUNT, number);
 }
 
 pub fn set_depth(image: &mut [u32; REGISTERS], number: u32)
     ensures { λ _. ⌜ Leaves (inCore (withDepth number)) (now (image .entry)) (now (image .exit)) ⌝ }
 {
-    put(image, DEPTH, number);
+    put(image, at::DEPTH, number);
 }
 
 pub fn set_write_address(image: &mut [u32; REGISTERS], number: u32)
     ensures { λ _. ⌜ Leaves (with.writingAt number) (now (image .entry)) (now (image .exit)) ⌝ }
 {
-    put(image, WRITE_ADDRESS, number);
+    put(image, at::WRITE_ADDRESS, number);
 }
 
 // Download mode.
 pub fn set_downloading(image: &mut [u32; REGISTERS], on: bool)
     ensures { λ _. ⌜ Leaves (with.downloading on) (now (image .entry)) (now (image .exit)) ⌝ }
 {
-    put(image, DOWNLOADING, bit_number(on));
+    put(image, at::DOWNLOADING, bit_number(on));
 }
 
 fn set_armed(image: &mut [u32; REGISTERS], on: bool)
     ensures { λ _. ⌜ Leaves (inCore (with.withArmed on)) (now (image .entry)) (now (image .exit)) ⌝ }
 {
-    put(image, ARMED, bit_number(on));
+    put(image, at::ARMED, bit_number(on));
 }
 
 fn set_timed(image: &mut [u32; REGISTERS], on: bool)
     ensures { λ _. ⌜ Leaves (inCore (with.withTimed on)) (now (image .entry)) (now (image .exit)) ⌝ }
 {
-    put(image, TIMED, bit_number(on));
+    put(image, at::TIMED, bit_number(on));
 }
 
 fn set_order(image: &mut [u32; REGISTERS], o: Order)
     ensures { λ _. ⌜ Leaves (inCore (with.withOrder o)) (now (image .entry)) (now (image .exit)) ⌝ }
 {
-    put(image, ORDER, order_number(o));
+    put(image, at::ORDER, order_number(o));
 }
 
 fn set_velocity(image: &mut [u32; REGISTERS], w: Word)
     ensures { λ _. ⌜ Leaves (inCore (with.withVelocity w)) (now (image .entry)) (now (image .exit)) ⌝ }
 {
-    put(image, VELOCITY, words::bits_of(w));
+    put(image, at::VELOCITY, words::bits_of(w));
 }
 
 // A wait whole.

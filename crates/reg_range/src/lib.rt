@@ -3,8 +3,8 @@
 // Every place is looked at, with no end in the middle, and the tests are counted: all hold exactly if the
 // count is full. Put together by `&`, those with one bound would become one test of their places' bits,
 // and the compiler would look at what is left place by place. Counted, tests stay alike, and it takes four
-// neighbours at once. For that a place without such a test among them gets a wider one (`image[107]`,
-// `image[119]`, `image[96]`), and its own beside.
+// neighbours at once. For that a place without such a test among them gets a wider one (`image[at::AXIS + 13]`,
+// `image[at::AXIS + 25]`, `image[at::AXIS + 2]`), and its own beside.
 ghost use Prim.Native.Nat.{_<_, _≤_};
 ghost use mathlib.Core.Path.{_≡_};
 ghost use mathlib.Core.Bool.{_&&_};
@@ -22,6 +22,7 @@ ghost use Rattle.reg_image.specs.Image.{comparison, takes, shaped, registersOf}
 ghost use Rattle.reg_range.specs.Count.{bit, Counts};
 ghost use Rattle.reg_range.specs.Range.{stands};
 use reg_image::REGISTERS;
+use reg_image::at;
 use words::Word;
 
 // That an image has its length is in its type: lent as a slice, the prover sees it.
@@ -61,14 +62,14 @@ fn first_places(image: &[u32; REGISTERS]) -> u32
     ensures { λ r. ⌜ Counts 8 (takes comparison (getD (now (image .entry)) 2 0) && leb (getD (now (image .entry)) 3 0) 1 && leb (getD (now (image .entry)) 4 0) 1 && leb (getD (now (image .entry)) 5 0) 1 && leb (getD (now (image .entry)) 6 0) 1 && leb (getD (now (image .entry)) 7 0) 1024 && leb (getD (now (image .entry)) 8 0) 1 && leb (getD (now (image .entry)) 9 0) 1) r ⌝ }
 {
     eight(
-        (image[2] <= 1) | (image[2] == 4294967295),
-        image[3] <= 1,
-        image[4] <= 1,
-        image[5] <= 1,
-        image[6] <= 1,
-        image[7] <= 1024,
-        image[8] <= 1,
-        image[9] <= 1,
+        (image[at::LAST] <= 1) | (image[at::LAST] == 4294967295),
+        image[at::ETO] <= 1,
+        image[at::EAL] <= 1,
+        image[at::EDV] <= 1,
+        image[at::EPO] <= 1,
+        image[at::ADDRESS] <= 1024,
+        image[at::RUNNING] <= 1,
+        image[at::ARMED] <= 1,
     )
 }
 
@@ -77,14 +78,14 @@ fn second_places(image: &[u32; REGISTERS]) -> u32
     ensures { λ r. ⌜ Counts 8 (leb (getD (now (image .entry)) 11 0) 1 && leb (getD (now (image .entry)) 12 0) 1 && leb (getD (now (image .entry)) 13 0) 1024 && leb (getD (now (image .entry)) 14 0) 2 && leb (getD (now (image .entry)) 16 0) 1 && leb (getD (now (image .entry)) 17 0) 1 && leb (getD (now (image .entry)) 18 0) 1 && leb (getD (now (image .entry)) 19 0) 1) r ⌝ }
 {
     eight(
-        image[11] <= 1,
-        image[12] <= 1,
-        image[13] <= 1024,
-        image[14] <= 2,
-        image[16] <= 1,
-        image[17] <= 1,
-        image[18] <= 1,
-        image[19] <= 1,
+        image[at::TIMED] <= 1,
+        image[at::DOWNLOADING] <= 1,
+        image[at::WRITE_ADDRESS] <= 1024,
+        image[at::ORDER] <= 2,
+        image[at::OUTPUTS] <= 1,
+        image[at::OUTPUTS + 1] <= 1,
+        image[at::OUTPUTS + 2] <= 1,
+        image[at::OUTPUTS + 3] <= 1,
     )
 }
 
@@ -93,14 +94,14 @@ fn third_places(image: &[u32; REGISTERS]) -> u32
     ensures { λ r. ⌜ Counts 8 (leb (getD (now (image .entry)) 20 0) 1 && leb (getD (now (image .entry)) 21 0) 1 && inRange (pos 0) (pos 65535) (ofBits (getD (now (image .entry)) 22 0)) && inRange (pos 0) (pos 65535) (ofBits (getD (now (image .entry)) 23 0)) && inRange (pos 0) (pos 65535) (ofBits (getD (now (image .entry)) 24 0)) && leb (getD (now (image .entry)) 25 0) 8 && leb (getD (now (image .entry)) 26 0) 1024 && leb (getD (now (image .entry)) 27 0) 1024) r ⌝ }
 {
     eight(
-        image[20] <= 1,
-        image[21] <= 1,
-        analog_allowed(image[22]),
-        analog_allowed(image[23]),
-        analog_allowed(image[24]),
-        image[25] <= 8,
-        image[26] <= 1024,
-        image[27] <= 1024,
+        image[at::DIGITAL] <= 1,
+        image[at::DIGITAL + 1] <= 1,
+        analog_allowed(image[at::ANALOG]),
+        analog_allowed(image[at::ANALOG + 1]),
+        analog_allowed(image[at::ANALOG + 2]),
+        image[at::DEPTH] <= 8,
+        image[at::ENTRIES] <= 1024,
+        image[at::ENTRIES + 1] <= 1024,
     )
 }
 
@@ -109,12 +110,12 @@ fn fourth_places(image: &[u32; REGISTERS]) -> u32
     ensures { λ r. ⌜ Counts 8 (leb (getD (now (image .entry)) 28 0) 1024 && leb (getD (now (image .entry)) 29 0) 1024 && leb (getD (now (image .entry)) 30 0) 1024 && leb (getD (now (image .entry)) 31 0) 1024 && leb (getD (now (image .entry)) 32 0) 1024 && leb (getD (now (image .entry)) 33 0) 1024 && allowedAt rows (registersOf (now (image .entry)) .values) 43 && allowedAt rows (registersOf (now (image .entry)) .values) 44) r ⌝ }
 {
     eight(
-        image[28] <= 1024,
-        image[29] <= 1024,
-        image[30] <= 1024,
-        image[31] <= 1024,
-        image[32] <= 1024,
-        image[33] <= 1024,
+        image[at::ENTRIES + 2] <= 1024,
+        image[at::ENTRIES + 3] <= 1024,
+        image[at::ENTRIES + 4] <= 1024,
+        image[at::ENTRIES + 5] <= 1024,
+        image[at::ENTRIES + 6] <= 1024,
+        image[at::ENTRIES + 7] <= 1024,
         allowed_at(image, 43),
         allowed_at(image, 44),
     )
@@ -151,7 +152,7 @@ fn eight_from_18(image: &[u32; REGISTERS]) -> u32
     ensures { λ r. ⌜ Counts 8 (leb (getD (now (image .entry)) 119 0) 2 && allowedAt rows (registersOf (now (image .entry)) .values) 24 && allowedAt rows (registersOf (now (image .entry)) .values) 23 && allowedAt rows (registersOf (now (image .entry)) .values) 22 && allowedAt rows (registersOf (now (image .entry)) .values) 21 && allowedAt rows (registersOf (now (image .entry)) .values) 20 && allowedAt rows (registersOf (now (image .entry)) .values) 19 && allowedAt rows (registersOf (now (image .entry)) .values) 18) r ⌝ }
 {
     eight(
-        image[119] <= 2,
+        image[at::AXIS + 25] <= 2,
         allowed_at(image, 24),
         allowed_at(image, 23),
         allowed_at(image, 22),
@@ -172,7 +173,7 @@ fn eight_from_10(image: &[u32; REGISTERS]) -> u32
         allowed_at(image, 16),
         allowed_at(image, 15),
         allowed_at(image, 14),
-        image[107] <= 2147483648,
+        image[at::AXIS + 13] <= 2147483648,
         allowed_at(image, 12),
         allowed_at(image, 11),
         allowed_at(image, 10),
@@ -189,7 +190,7 @@ fn first_seven(image: &[u32; REGISTERS]) -> u32
         allowed_at(image, 5),
         allowed_at(image, 4),
         allowed_at(image, 3),
-        image[96] <= 3,
+        image[at::AXIS + 2] <= 3,
         allowed_at(image, 1),
         allowed_at(image, 0),
     )

@@ -13,4 +13,4 @@ returns c =
     counts-as (c .eight .ensures) (same-eight {a = leb (getD l 119 0) 2} refl (c .before .before .before .before .before .before .before .allowed-at .ensures) (c .before .before .before .before .before .before .allowed-at2 .ensures) (c .before .before .before .before .before .allowed-at3 .ensures) (c .before .before .before .before .allowed-at4 .ensures) (c .before .before .before .allowed-at5 .ensures) (c .before .before .allowed-at6 .ensures) (c .before .allowed-at7 .ensures))
 
 pub eight-from-18-spec : {M : Type 1} → statement M
-eight-from-18-spec = tie.close (tie.spec (λ c. search needs) (λ c κs. search needs) (λ c κs. search needs) (λ c κs. search needs) (λ c κs. search needs) (λ c κs. search needs) (λ c κs. search needs) (λ c κs. search needs) (λ c κs. search needs) returns)
+eight-from-18-spec = tie.close (tie.spec (λ c. search needs) (λ c. search needs) (λ c. search needs) (λ c κs. search needs) (λ c κs. search needs) (λ c κs. search needs) (λ c κs. search needs) (λ c κs. search needs) (λ c κs. search needs) (λ c κs. search needs) (λ c κs. search needs) returns)

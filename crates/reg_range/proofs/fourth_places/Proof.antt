@@ -13,4 +13,4 @@ returns c =
     counts-as (c .eight .ensures) (same-eight {a = leb (getD l 28 0) 1024} {b = leb (getD l 29 0) 1024} {c = leb (getD l 30 0) 1024} {d = leb (getD l 31 0) 1024} {e = leb (getD l 32 0) 1024} {f = leb (getD l 33 0) 1024} refl refl refl refl refl refl (c .before .before .allowed-at .ensures) (c .before .allowed-at2 .ensures))
 
 pub fourth-places-spec : {M : Type 1} → statement M
-fourth-places-spec = tie.close (tie.spec (λ c. search needs) (λ c. search needs) (λ c. search needs) (λ c. search needs) (λ c. search needs) (λ c. search needs) (λ c κs. search needs) (λ c κs. search needs) (λ c κs. search needs) returns)
+fourth-places-spec = tie.close (tie.spec (λ c. search needs) (λ c. search needs) (λ c. search needs) (λ c. search needs) (λ c. search needs) (λ c. search needs) (λ c. search needs) (λ c. search needs) (λ c. search needs) (λ c. search needs) (λ c. search needs) (λ c. search needs) (λ c. search needs) (λ c. search needs) (λ c. search needs) (λ c. search needs) (λ c. search needs) (λ c. search needs) (λ c κs. search needs) (λ c κs. search needs) (λ c κs. search needs) returns)

@@ -13,4 +13,4 @@ returns c =
     counts-as (c .eight .ensures) (same-eight {a = leb (getD l 20 0) 1} {b = leb (getD l 21 0) 1} {f = leb (getD l 25 0) 8} {g = leb (getD l 26 0) 1024} {h = leb (getD l 27 0) 1024} refl refl (c .before .before .before .before .before .before .before .before .analog-allowed .ensures) (c .before .before .before .before .before .before .analog-allowed2 .ensures) (c .before .before .before .before .analog-allowed3 .ensures) refl refl refl)
 
 pub third-places-spec : {M : Type 1} → statement M
-third-places-spec = tie.close (tie.spec (λ c. search needs) (λ c. search needs) (λ c. search needs) (λ c κs. search needs) (λ c. search needs) (λ c κs. search needs) (λ c. search needs) (λ c κs. search needs) (λ c. search needs) (λ c. search needs) (λ c. search needs) (λ c κs. search needs) returns)
+third-places-spec = tie.close (tie.spec (λ c. search needs) (λ c. search needs) (λ c. search needs) (λ c. search needs) (λ c. search needs) (λ c κs. search needs) (λ c. search needs) (λ c. search needs) (λ c. search needs) (λ c κs. search needs) (λ c. search needs) (λ c. search needs) (λ c. search needs) (λ c κs. search needs) (λ c. search needs) (λ c. search needs) (λ c. search needs) (λ c. search needs) (λ c. search needs) (λ c κs. search needs) returns)

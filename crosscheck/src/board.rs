@@ -3,7 +3,7 @@
 
 use crate::event::{Bytes, Event};
 use crate::plain::{
-    self, check, new_cells, read_reply, Registers, Unwatched, Watch, CELLS_LENGTH, DATAGRAM_LENGTH,
+    self, check, new_cells, read_reply, Command, Registers, CELLS_LENGTH, DATAGRAM_LENGTH,
     PROGRAM_LENGTH, RECORD_LENGTH,
 };
 
@@ -70,18 +70,19 @@ impl Board {
         }
     }
 
-    /// Carries out an event.
-    pub fn apply(&mut self, event: &Event) -> Answer {
-        self.apply_watched(event, &mut Unwatched)
+    /// The record at an address, `None` at 1,024.
+    pub fn record(&self, address: u16) -> Option<Command> {
+        let (records, _) = self.program.as_chunks();
+        records.get(usize::from(address)).map(Command::from_record)
     }
 
-    /// Carries out an event whose steps are watched.
-    pub fn apply_watched(&mut self, event: &Event, watch: &mut impl Watch) -> Answer {
+    /// Carries out an event.
+    pub fn apply(&mut self, event: &Event) -> Answer {
         match *event {
-            Event::Datagram(bytes) => self.datagram(bytes, watch),
+            Event::Datagram(bytes) => self.datagram(bytes),
             Event::Sample(ref fields) => Answer::Status(self.registers.sample(fields)),
             Event::Tick => Answer::Status(self.registers.tick()),
-            Event::Run(budget) => self.run(budget, watch),
+            Event::Run(budget) => self.run(budget),
             Event::PowerUp => Answer::Status(self.registers.power_up(&self.cells)),
             Event::Check => {
                 let plain::Verdict { status, address, depth } = check(&self.program);
@@ -97,16 +98,16 @@ impl Board {
         }
     }
 
-    fn datagram(&mut self, bytes: Bytes, watch: &mut impl Watch) -> Answer {
+    fn datagram(&mut self, bytes: Bytes) -> Answer {
         let Board { registers, program, cells, reply } = self;
-        let status = registers.datagram_watched(program, cells, reply, bytes.as_slice(), watch);
+        let status = registers.datagram(program, cells, reply, bytes.as_slice());
         let none = [plain::status::NONE, plain::status::LENGTH, plain::status::REGISTERS];
         Answer::Datagram { status, replied: !none.contains(&status) }
     }
 
-    fn run(&mut self, budget: u64, watch: &mut impl Watch) -> Answer {
+    fn run(&mut self, budget: u64) -> Answer {
         let budget = usize::try_from(budget).unwrap_or(usize::MAX);
-        let ran = self.registers.run_watched(&self.program, &mut self.cells, budget, watch);
+        let ran = self.registers.run(&self.program, &mut self.cells, budget);
         Answer::Ran { status: ran.status, steps: ran.steps }
     }
 
@@ -137,7 +138,7 @@ impl Board {
     }
 }
 
-fn build(length: usize, address: u8, command: plain::Command) -> Answer {
+fn build(length: usize, address: u8, command: Command) -> Answer {
     let mut buffer = Bytes::filled(UNTOUCHED, length);
     let status = plain::build_command(buffer.as_mut_slice(), address, command);
     Answer::Built { status, buffer }

@@ -7,7 +7,7 @@ use dhikmarul::place;
 use crate::board::{Answer, Board};
 use crate::event::{Event, Hex, PLACES};
 use crate::library::{image_place, LibraryBoard};
-use crate::plain::{status, Watch, CELLS_LENGTH, PROGRAM_LENGTH, RECORD_LENGTH};
+use crate::plain::{status, CELLS_LENGTH, PROGRAM_LENGTH, RECORD_LENGTH};
 
 type Image = [i32; PLACES];
 
@@ -27,7 +27,7 @@ impl PlainSide {
         image
     }
 
-    fn apply(&mut self, event: &Event, watch: &mut impl Watch) -> Answer {
+    fn apply(&mut self, event: &Event) -> Answer {
         if let Event::Register { place, value } = *event {
             return self.set_register(place, value);
         }
@@ -36,7 +36,7 @@ impl PlainSide {
                 return answer;
             }
         }
-        let answer = self.board.apply_watched(event, watch);
+        let answer = self.board.apply(event);
         let written = *event == Event::PowerUp && answer == Answer::Status(status::DONE);
         if written || *event == Event::New {
             self.unheld.clear();
@@ -83,15 +83,8 @@ pub struct Pair {
     plain: PlainSide,
     library: LibraryBoard,
     /// What both had before the last event.
-    before: Before,
+    before: PlainSide,
     compared: u64,
-}
-
-struct Before {
-    image: Image,
-    cells: Vec<u8>,
-    reply: Vec<u8>,
-    program: Vec<u8>,
 }
 
 impl Default for Pair {
@@ -103,18 +96,17 @@ impl Default for Pair {
 impl Pair {
     pub fn new() -> Pair {
         let plain = PlainSide { board: Board::new(), unheld: Vec::new() };
-        let before = Before {
-            image: plain.image(),
-            cells: plain.board.cells.clone(),
-            reply: plain.board.reply.clone(),
-            program: plain.board.program.clone(),
-        };
-        Pair { plain, library: LibraryBoard::new(), before, compared: 0 }
+        Pair { before: plain.clone(), plain, library: LibraryBoard::new(), compared: 0 }
     }
 
     /// The plain board as it stands.
     pub fn board(&self) -> &Board {
         &self.plain.board
+    }
+
+    /// The plain board as it was before the last event.
+    pub fn before(&self) -> &Board {
+        &self.before.board
     }
 
     /// Whether a register has a number that its type cannot hold.
@@ -124,25 +116,26 @@ impl Pair {
 
     /// Carries out an event on both. The plain board's answer, or a report
     /// where the two differ.
-    pub fn apply(&mut self, event: &Event, watch: &mut impl Watch) -> Result<Answer, String> {
+    pub fn apply(&mut self, event: &Event) -> Result<Answer, String> {
         if !event.is_under_test() {
-            self.plain.apply(event, watch);
+            self.plain.apply(event);
             self.library.apply(event);
             // A new board is a power-up of both; all else only sets.
             return if *event == Event::New { self.judge(event, None) } else { Ok(Answer::Set) };
         }
         self.remember();
-        let expected = self.plain.apply(event, watch);
+        let expected = self.plain.apply(event);
         let answer = self.library.apply(event);
         self.judge(event, Some((expected, answer)))
     }
 
     fn remember(&mut self) {
-        let board = &self.plain.board;
-        self.before.image = self.plain.image();
-        self.before.cells.clone_from(&board.cells);
-        self.before.reply.clone_from(&board.reply);
-        self.before.program.clone_from(&board.program);
+        let (before, now) = (&mut self.before.board, &self.plain.board);
+        before.registers.clone_from(&now.registers);
+        before.program.clone_from(&now.program);
+        before.cells.clone_from(&now.cells);
+        before.reply.clone_from(&now.reply);
+        self.before.unheld.clone_from(&self.plain.unheld);
     }
 
     fn judge(
@@ -182,7 +175,7 @@ impl Pair {
         report_store(out, "cell", 4, &board.cells, &self.library.cells)?;
         report_store(out, "reply byte", 1, &board.reply, &self.library.reply)?;
         report_store(out, "record", RECORD_LENGTH, &board.program, &self.library.program)?;
-        writeln!(out, "registers before: {:?}", self.before.image)?;
+        writeln!(out, "registers before: {:?}", self.before.image())?;
         writeln!(out, "registers after, plain:   {:?}", self.plain.image())?;
         writeln!(out, "registers after, library: {:?}", self.library.dumped())?;
         self.report_stores(out)?;
@@ -191,9 +184,10 @@ impl Pair {
 
     fn report_registers(&self, out: &mut String) -> fmt::Result {
         let (plain, library) = (self.plain.image(), self.library.dumped());
+        let before = self.before.image();
         for at in 0..PLACES {
             if plain[at] != library[at] {
-                let (name, before) = (place::name(image_place(at)), self.before.image[at]);
+                let (name, before) = (place::name(image_place(at)), before[at]);
                 writeln!(
                     out,
                     "  {name}: before {before}, plain {}, library {}",
@@ -206,10 +200,10 @@ impl Pair {
 
     fn report_stores(&self, out: &mut String) -> fmt::Result {
         let board = &self.plain.board;
-        writeln!(out, "cells before:         {}", Hex(&self.before.cells))?;
+        writeln!(out, "cells before:         {}", Hex(&self.before.board.cells))?;
         writeln!(out, "cells after, plain:   {}", Hex(&board.cells))?;
         writeln!(out, "cells after, library: {}", Hex(&self.library.cells))?;
-        writeln!(out, "reply before:         {}", Hex(&self.before.reply))?;
+        writeln!(out, "reply before:         {}", Hex(&self.before.board.reply))?;
         writeln!(out, "reply after, plain:   {}", Hex(&board.reply))?;
         writeln!(out, "reply after, library: {}", Hex(&self.library.reply))
     }
@@ -220,18 +214,19 @@ impl Pair {
     fn report_script(&self, event: &Event, out: &mut String) -> fmt::Result {
         writeln!(out, "the state before and the event as a script:\nn")?;
         let new = Board::new();
-        let program = &self.before.program;
+        let program = &self.before.board.program;
         for (address, record) in program.chunks_exact(RECORD_LENGTH).enumerate() {
             if record.iter().any(|&byte| byte != 0) {
                 writeln!(out, "w {address} {}", Hex(record))?;
             }
         }
-        let cells = self.before.cells.chunks_exact(4).zip(new.cells.chunks_exact(4));
+        let cells = self.before.board.cells.chunks_exact(4).zip(new.cells.chunks_exact(4));
         for (cell, (bytes, _)) in cells.enumerate().filter(|(_, (bytes, new))| bytes != new) {
             let value = i32::from_be_bytes([bytes[0], bytes[1], bytes[2], bytes[3]]);
             writeln!(out, "v {cell} {value}")?;
         }
-        let places = self.before.image.iter().zip(new.registers.image()).enumerate();
+        let image = self.before.image();
+        let places = image.iter().zip(new.registers.image()).enumerate();
         for (at, (&value, _)) in places.filter(|(_, (&value, new))| value != *new) {
             match at {
                 place::WAIT_COUNT => writeln!(out, "q {at} {}", value as u32)?,
@@ -240,8 +235,8 @@ impl Pair {
         }
         let lengths = [
             (program.len(), PROGRAM_LENGTH),
-            (self.before.cells.len(), CELLS_LENGTH),
-            (self.before.reply.len(), 9),
+            (self.before.board.cells.len(), CELLS_LENGTH),
+            (self.before.board.reply.len(), 9),
         ];
         for (which, (length, _)) in lengths.iter().enumerate().filter(|(_, (a, b))| a != b) {
             writeln!(out, "l {which} {length}")?;

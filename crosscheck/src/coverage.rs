@@ -4,9 +4,9 @@ mod rare;
 
 use std::fmt;
 
-use crate::board::Answer;
+use crate::board::{Answer, Board};
 use crate::event::Event;
-use crate::plain::{number, status, Command, Registers, Watch};
+use crate::plain::{number, status, Command, Registers};
 use rare::Seen;
 pub use rare::{Rare, Rares};
 
@@ -47,7 +47,6 @@ pub struct Coverage {
     /// Checks refused at each depth.
     depths: [u64; 9],
     rares: Rares,
-    seen: Seen,
 }
 
 impl Default for Coverage {
@@ -72,7 +71,6 @@ impl Coverage {
             reads: none,
             depths: [0; 9],
             rares: Rares::new(),
-            seen: Seen::default(),
         }
     }
 
@@ -120,23 +118,48 @@ impl Coverage {
         }
     }
 
+    /// Counts an event's program steps, carrying them out again one by one
+    /// from where the board was. A run is that many single steps: where they
+    /// lead elsewhere, that is the report.
+    pub fn count_steps(
+        &mut self,
+        event: &Event,
+        answer: Answer,
+        before: &Board,
+        after: &Board,
+    ) -> Result<(), String> {
+        let steps = steps_of(event, answer);
+        if steps == 0 {
+            return Ok(());
+        }
+        let (mut registers, mut cells) = (before.registers.clone(), before.cells.clone());
+        for _ in 0..steps {
+            let seen = Seen::new(&registers, before.record(registers.address));
+            let status = registers.step(&before.program, &mut cells);
+            let row = seen.command.map_or(END_ROW, |command| command.number as usize);
+            add(&mut self.steps[row], status);
+            self.rares.step(&seen, status, &registers);
+        }
+        if registers == after.registers && cells == after.cells {
+            return Ok(());
+        }
+        Err(format!("{event}: its {steps} steps, one by one, lead elsewhere on the plain board"))
+    }
+
     /// The named rare points with no count: a sign of a generator too shallow.
     pub fn missed(&self) -> Vec<&'static str> {
         self.rares.missed()
     }
 }
 
-impl Watch for Coverage {
-    const WATCHES: bool = true;
-
-    fn before(&mut self, registers: &Registers, command: Option<Command>) {
-        self.seen = Seen::new(registers, command);
-    }
-
-    fn after(&mut self, registers: &Registers, status: u8) {
-        let row = self.seen.command.map_or(END_ROW, |command| command.number as usize);
-        add(&mut self.steps[row], status);
-        self.rares.step(&self.seen, status, registers);
+/// How many program steps an event had: those of a run, or the one of a 130.
+fn steps_of(event: &Event, answer: Answer) -> usize {
+    match (event, answer) {
+        (_, Answer::Ran { steps, .. }) => steps,
+        (Event::Datagram(bytes), Answer::Datagram { status: status::DONE, .. }) => {
+            usize::from(bytes.as_slice()[1] == number::ONE_STEP)
+        }
+        _ => 0,
     }
 }
 

@@ -21,7 +21,7 @@ pub use check::{check, Verdict};
 pub use events::new_cells;
 pub use registers::{Order, Registers, Wait};
 pub use sheet::{place_of, settable, Row, AXIS, CELLS, CELLS_LENGTH, ROWS, USER_VARIABLES};
-pub use steps::{Ran, Unwatched, Watch};
+pub use steps::Ran;
 pub use wire::{build_command, checksum, read_reply, Command, DATAGRAM_LENGTH, RECORD_LENGTH};
 
 /// Records of a program store; as an address, the end behind the last one.

@@ -43,17 +43,17 @@ fn compare(events: u64, seed: u64, begun: Instant) -> Result<Coverage, String> {
     let mut coverage = Coverage::new();
     let mut told = begun;
     let mut done = 0;
-    let mut before = pair.board().registers.clone();
     while done < events {
         let event = generator.next(pair.board());
         if !event.is_under_test() {
-            pair.apply(&event, &mut coverage)?;
+            pair.apply(&event)?;
             continue;
         }
-        before.clone_from(&pair.board().registers);
         let unheld = pair.unheld();
-        let answer = pair.apply(&event, &mut coverage)?;
-        coverage.count(&event, answer, &before, &pair.board().registers, unheld);
+        let answer = pair.apply(&event)?;
+        let (before, after) = (pair.before(), pair.board());
+        coverage.count(&event, answer, &before.registers, &after.registers, unheld);
+        coverage.count_steps(&event, answer, before, after)?;
         done += 1;
         if done % LOOK_EVERY == 0 && told.elapsed() >= Duration::from_secs(1) {
             told = Instant::now();

@@ -75,7 +75,6 @@ rare_points! {
 pub struct Rares([u64; WORDS.len()]);
 
 /// What a step had before it.
-#[derive(Clone, Copy, Default)]
 pub struct Seen {
     pub command: Option<Command>,
     address: u16,

@@ -5,7 +5,6 @@ use super::direct::{Outcome, KEY};
 use super::events::put_default_cells;
 use super::registers::{Order, Registers};
 use super::sheet::{self, Access, ROWS};
-use super::steps::Watch;
 use super::store::{Cells, Program};
 use super::wire::Seven;
 use super::{number, status, RECORDS};
@@ -19,7 +18,6 @@ impl Registers {
         command: Seven,
         program: &mut Program,
         cells: &mut Cells,
-        watch: &mut impl Watch,
     ) -> Result<(u8, i32), u8> {
         let value = match command.number() {
             0..=127 if self.download => {
@@ -30,7 +28,7 @@ impl Registers {
                 return Err(status::NOT_NOW);
             }
             0..=127 => self.obey_directly(command, cells)?,
-            _ => self.control(command, program, cells, watch)?,
+            _ => self.control(command, program, cells)?,
         };
         Ok((status::DONE, value))
     }
@@ -64,17 +62,11 @@ impl Registers {
     }
 
     #[inline(never)]
-    fn control(
-        &mut self,
-        command: Seven,
-        program: &Program,
-        cells: &mut Cells,
-        watch: &mut impl Watch,
-    ) -> Outcome {
+    fn control(&mut self, command: Seven, program: &Program, cells: &mut Cells) -> Outcome {
         match command.number() {
             number::STOP_PROGRAM => self.stop_program(),
             number::RUN_PROGRAM => self.run_program(command)?,
-            number::ONE_STEP => self.one_step(program, cells, watch)?,
+            number::ONE_STEP => self.one_step(program, cells)?,
             number::RESET_PROGRAM => self.reset_program(),
             number::START_DOWNLOAD => self.start_download(command)?,
             number::END_DOWNLOAD => self.download = false,
@@ -110,16 +102,11 @@ impl Registers {
     }
 
     /// The step's own status is not shown.
-    fn one_step(
-        &mut self,
-        program: &Program,
-        cells: &mut Cells,
-        watch: &mut impl Watch,
-    ) -> Result<(), u8> {
+    fn one_step(&mut self, program: &Program, cells: &mut Cells) -> Result<(), u8> {
         if self.running || self.download {
             return Err(status::NOT_NOW);
         }
-        self.steps(program, cells, 1, watch);
+        self.steps(program, cells, 1);
         Ok(())
     }
 

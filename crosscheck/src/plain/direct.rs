@@ -172,7 +172,7 @@ impl Registers {
     }
 
     /// Globals of bank 0 reach their cells at once.
-    #[inline(never)]
+    #[inline(always)]
     fn set_bank_0(&mut self, kind: u8, value: i32, cells: &mut Cells) -> Done {
         match kind {
             66 => {

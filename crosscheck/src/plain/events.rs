@@ -3,7 +3,7 @@
 
 use super::registers::{Order, Registers, EAL, P211, P212, P213, P220, P221, P51, P52, P55};
 use super::sheet::{self, Access, Row, ROWS};
-use super::steps::{Ran, Unwatched, Watch};
+use super::steps::Ran;
 use super::store::{self, read_cell, write_cell, Cells};
 use super::wire::{self, Frame, Seven};
 use super::{status, GREATEST_BUDGET};
@@ -83,19 +83,6 @@ impl Registers {
         reply: &mut [u8],
         bytes: &[u8],
     ) -> u8 {
-        self.datagram_watched(program, cells, reply, bytes, &mut Unwatched)
-    }
-
-    /// A datagram whose step, if it is a 130, is watched.
-    #[inline]
-    pub fn datagram_watched(
-        &mut self,
-        program: &mut [u8],
-        cells: &mut [u8],
-        reply: &mut [u8],
-        bytes: &[u8],
-        watch: &mut impl Watch,
-    ) -> u8 {
         let reply = <&mut Frame>::try_from(reply);
         let (Some(program), Some(cells), Ok(reply)) =
             (store::program_mut(program), store::cells_mut(cells), reply)
@@ -115,7 +102,7 @@ impl Registers {
         // A command may change the addresses; the reply has those before it.
         let (to, from) = (self.reply_address, self.module_address);
         let outcome = if wire::checksum(bytes) == *sum {
-            self.obey(Seven(seven), program, cells, watch)
+            self.obey(Seven(seven), program, cells)
         } else {
             Err(status::CHECKSUM)
         };
@@ -161,18 +148,6 @@ impl Registers {
     /// Runs at most `budget` steps.
     #[inline]
     pub fn run(&mut self, program: &[u8], cells: &mut [u8], budget: usize) -> Ran {
-        self.run_watched(program, cells, budget, &mut Unwatched)
-    }
-
-    /// A run whose steps are watched.
-    #[inline]
-    pub fn run_watched(
-        &mut self,
-        program: &[u8],
-        cells: &mut [u8],
-        budget: usize,
-        watch: &mut impl Watch,
-    ) -> Ran {
         let (Some(program), Some(cells)) = (store::program(program), store::cells_mut(cells))
         else {
             return Ran { status: status::LENGTH, steps: 0 };
@@ -186,7 +161,16 @@ impl Registers {
         if !self.running || budget == 0 {
             return Ran { status: status::DONE, steps: 0 };
         }
-        self.steps(program, cells, budget, watch)
+        self.steps(program, cells, budget)
+    }
+
+    /// One step, whether the program is running or not: its status. For
+    /// looking at a run step by step.
+    pub fn step(&mut self, program: &[u8], cells: &mut [u8]) -> u8 {
+        match (store::program(program), store::cells_mut(cells)) {
+            (Some(program), Some(cells)) => self.steps(program, cells, 1).status,
+            _ => status::LENGTH,
+        }
     }
 
     /// Makes the registers 0, the last comparison "equal", the stack empty and

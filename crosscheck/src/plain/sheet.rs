@@ -243,10 +243,8 @@ pub fn settable(number: u8) -> Option<(usize, &'static Row)> {
 #[inline(always)]
 pub fn stored_cell(number: u8) -> Option<(usize, usize)> {
     let (place, _) = row_of(number)?;
-    match CELL_OF_ROW[place] {
-        NOWHERE => None,
-        cell => Some((place, usize::from(cell))),
-    }
+    let cell = usize::from(CELL_OF_ROW[place]);
+    (cell < STORED_AXIS).then_some((place, cell))
 }
 
 #[cfg(test)]

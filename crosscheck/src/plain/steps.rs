@@ -4,8 +4,8 @@ use super::control::record_address;
 use super::direct::{motor_zero, Carried, Hand, Next};
 use super::registers::{Registers, Wait, ETO, P211, P212, P213, P55};
 use super::store::{Cells, Program};
-use super::wire::{Command, Seven};
-use super::{number, status};
+use super::wire::{Seven, RECORD_LENGTH};
+use super::{number, status, END_ADDRESS};
 
 /// What a run answers.
 #[derive(Clone, Copy, Debug, PartialEq, Eq)]
@@ -14,110 +14,76 @@ pub struct Ran {
     pub steps: usize,
 }
 
-/// Sees each step before and after it, to count what was reached.
-pub trait Watch {
-    /// False where nobody looks, so that nothing is made ready to look at.
-    const WATCHES: bool;
-    /// `command` is `None` at address 1,024.
-    fn before(&mut self, registers: &Registers, command: Option<Command>);
-    fn after(&mut self, registers: &Registers, status: u8);
-}
-
-/// Watches nothing and costs nothing.
-pub struct Unwatched;
-
-impl Watch for Unwatched {
-    const WATCHES: bool = false;
-    fn before(&mut self, _: &Registers, _: Option<Command>) {}
-    fn after(&mut self, _: &Registers, _: u8) {}
-}
-
 impl Registers {
     /// Steps until the budget is used, the program stops, or a WAIT holds. The
     /// first step is carried out whatever the budget and whether the program
     /// is running or not.
     #[inline(never)]
-    pub fn steps(
-        &mut self,
-        program: &Program,
-        cells: &mut Cells,
-        budget: usize,
-        watch: &mut impl Watch,
-    ) -> Ran {
-        let (mut hand, mut left) = (self.hand(), budget);
-        let mut record = self.fetch(program, &hand, watch);
-        self.drop_before(record);
-        let status = loop {
-            let Some(command) = record else {
-                // Address 1,024: the program stops, the address stays.
-                self.running = false;
-                break status::VALUE;
-            };
-            let mut status = status::DONE;
-            match self.carry_out(command, &mut hand, cells) {
-                Ok(Next::On) => hand.address += 1,
-                Ok(Next::There) => {}
-                Ok(Next::Ends) => break status::DONE,
-                Err(refusal) => {
-                    status = refusal;
-                    let goes_on = self.refuse(refusal);
-                    hand.address += usize::from(goes_on);
-                    if !goes_on || left == 1 {
-                        break refusal;
-                    }
-                }
+    pub fn steps(&mut self, program: &Program, cells: &mut Cells, budget: usize) -> Ran {
+        self.drop_before(program.get(usize::from(self.address)));
+        let mut steps = 0;
+        loop {
+            let ran = self.steps_to_refusal(program, cells, budget - steps);
+            steps += ran.steps;
+            let goes_on = ran.status != status::DONE && self.refuse(ran.status);
+            if !goes_on || steps == budget {
+                return Ran { status: ran.status, steps };
             }
-            if left == 1 {
-                break status::DONE;
-            }
-            self.show(&hand, status, watch);
-            left -= 1;
-            record = self.fetch(program, &hand, watch);
-        };
-        self.put_back(&hand);
-        self.show(&hand, status, watch);
-        Ran { status, steps: budget - left + 1 }
+        }
     }
 
     /// Any step that is not a WAIT drops the wait. Only a run's first step can
     /// find one: a step leaves it only where it holds, and then the run ends.
     #[inline(always)]
-    fn drop_before(&mut self, first: Option<Seven>) {
-        if first.is_none_or(|record| record.number() != number::WAIT) {
+    fn drop_before(&mut self, first: Option<&[u8; RECORD_LENGTH]>) {
+        if first.is_none_or(|record| Seven(record).number() != number::WAIT) {
             self.drop_wait();
         }
     }
 
-    /// Drops the wait of a refused step; an unknown command stops the program
-    /// and keeps the address. Answers whether the program goes on.
+    /// Steps as `steps` does, but no further than a step that is refused: it
+    /// is counted, and what becomes of it is left to `refuse`.
     ///
-    /// Refusals are rare, and a call that is marked so lets the compiler lay
-    /// out the way of all other steps first.
+    /// All of a step is here, in one function that nothing is inlined around
+    /// and that calls nothing: so accumulator, address and depth stay where
+    /// they are from step to step, and no change elsewhere moves them.
+    #[inline(never)]
+    fn steps_to_refusal(&mut self, program: &Program, cells: &mut Cells, budget: usize) -> Ran {
+        let mut hand = self.hand();
+        let mut left = budget;
+        let status = loop {
+            let Some(record) = program.get(hand.address) else {
+                break status::VALUE;
+            };
+            match self.carry_out(Seven(record), &mut hand, cells) {
+                Ok(Next::On) => hand.address += 1,
+                Ok(Next::There) => {}
+                Ok(Next::Ends) => break status::DONE,
+                Err(refusal) => break refusal,
+            }
+            if left == 1 {
+                break status::DONE;
+            }
+            left -= 1;
+        };
+        self.put_back(&hand);
+        Ran { status, steps: budget - left + 1 }
+    }
+
+    /// What becomes of a refused step: it drops the wait and the address rises
+    /// by one; but an unknown command and address 1,024 stop the program, and
+    /// the address stays. Answers whether the program goes on.
     #[cold]
     #[inline(never)]
     fn refuse(&mut self, refusal: u8) -> bool {
         self.drop_wait();
-        if refusal == status::COMMAND {
+        let stops = refusal == status::COMMAND || self.address == END_ADDRESS;
+        if stops {
             self.running = false;
-            return false;
+        } else {
+            self.address += 1;
         }
-        true
-    }
-
-    /// The record at the program address, `None` at 1,024.
-    #[inline(always)]
-    fn fetch<'p, W: Watch>(
-        &mut self,
-        program: &'p Program,
-        hand: &Hand,
-        watch: &mut W,
-    ) -> Option<Seven<'p>> {
-        let record = program.get(hand.address);
-        if W::WATCHES {
-            self.put_back(hand);
-            watch.before(self, record.map(Command::from_record));
-        }
-        record.map(Seven)
+        !stops
     }
 
     /// The registers that a run carries.
@@ -135,14 +101,6 @@ impl Registers {
         self.accumulator = hand.accumulator;
         self.address = hand.address as u16;
         self.depth = hand.depth as u8;
-    }
-
-    #[inline(always)]
-    fn show<W: Watch>(&mut self, hand: &Hand, status: u8, watch: &mut W) {
-        if W::WATCHES {
-            self.put_back(hand);
-            watch.after(self, status);
-        }
     }
 
     #[inline(always)]

@@ -145,65 +145,65 @@ impl Search {
     }
 }
 
-/// Where a record leads, or the status of a bad one.
+/// Where a record leads, or the status of a bad one: it is judged by what it
+/// says itself, all that does not hang on accumulator, X, parameters or lock.
+///
+/// One match for all commands, so that a record is told apart once.
 #[inline(always)]
 fn way(record: Seven) -> Result<Way, u8> {
     match record.number() {
-        number::JA => record_address(record.value()).map(Way::Jump),
+        number::JA => return record_address(record.value()).map(Way::Jump),
         number::JC => {
             type_up_to(record, 11)?;
-            record_address(record.value()).map(Way::Branch)
+            return record_address(record.value()).map(Way::Branch);
         }
-        number::CSUB => record_address(record.value()).map(Way::Call),
-        number::RSUB => Ok(Way::Return),
-        number::STOP => Ok(Way::End),
-        _ => judge(record).map(|()| Way::Next),
-    }
-}
-
-/// Judges a record that leads to the next one by what it says itself: all
-/// that does not hang on accumulator, X, parameters or lock.
-#[inline(always)]
-fn judge(record: Seven) -> Result<(), u8> {
-    match record.number() {
-        number::ROR | number::ROL | number::MST => motor_zero(record),
-        number::MVP => motor_zero(record).and_then(|()| type_up_to(record, 1)),
+        number::CSUB => return record_address(record.value()).map(Way::Call),
+        number::RSUB => return Ok(Way::Return),
+        number::STOP => return Ok(Way::End),
+        number::ROR | number::ROL | number::MST => motor_zero(record)?,
+        number::MVP => {
+            motor_zero(record)?;
+            type_up_to(record, 1)?;
+        }
         number::SAP => {
             let row = judge_settable(record)?;
-            wanted(row.allows(record.value()), status::VALUE)
+            wanted(row.allows(record.value()), status::VALUE)?;
         }
-        number::AAP => judge_settable(record).map(|_| ()),
-        number::GAP => judge_axis(record, sheet::row_of(record.kind()).is_some()),
+        number::AAP => judge_settable(record).map(|_| ())?,
+        number::GAP => judge_axis(record, sheet::row_of(record.kind()).is_some())?,
         number::STAP | number::RSAP => {
-            judge_axis(record, sheet::stored_cell(record.kind()).is_some())
+            judge_axis(record, sheet::stored_cell(record.kind()).is_some())?;
         }
         number::SGP => {
             judge_settable_global(record)?;
-            wanted(global_allows(record), status::VALUE)
+            wanted(global_allows(record), status::VALUE)?;
         }
-        number::AGP => judge_settable_global(record),
-        number::GGP => judge_global(record, matches!(record.kind(), 66 | 73 | 76 | 77 | 128 | 130)),
+        number::AGP => judge_settable_global(record)?,
+        number::GGP => {
+            judge_global(record, matches!(record.kind(), 66 | 73 | 76 | 77 | 128 | 130))?;
+        }
         number::STGP | number::RSGP => {
             bank_2(record)?;
-            user_variable(record).map(|_| ())
+            user_variable(record)?;
         }
         number::SIO => {
             bank_2(record)?;
             type_up_to(record, 3)?;
-            wanted((0..=1).contains(&record.value()), status::VALUE)
+            wanted((0..=1).contains(&record.value()), status::VALUE)?;
         }
-        number::GIO => judge_port(record),
+        number::GIO => judge_port(record)?,
         number::CALC => {
             type_up_to(record, 9)?;
             let divides = record.kind() == 3 || record.kind() == 4;
-            wanted(!(divides && record.value() == 0), status::VALUE)
+            wanted(!(divides && record.value() == 0), status::VALUE)?;
         }
-        number::CALCX => type_up_to(record, 10),
-        number::COMP => Ok(()),
-        number::CLE => type_up_to(record, 4),
-        number::WAIT => judge_wait(record).map(|_| ()),
-        _ => Err(status::COMMAND),
+        number::CALCX => type_up_to(record, 10)?,
+        number::COMP => {}
+        number::CLE => type_up_to(record, 4)?,
+        number::WAIT => judge_wait(record).map(|_| ())?,
+        _ => return Err(status::COMMAND),
     }
+    Ok(Way::Next)
 }
 
 /// An axis command's motor and type; `on_sheet` says whether it has the type.

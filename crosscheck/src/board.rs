@@ -3,7 +3,7 @@
 
 use crate::event::{Bytes, Event};
 use crate::plain::{
-    self, check, new_cells, read_reply, Command, Registers, CELLS_LENGTH, DATAGRAM_LENGTH,
+    self, check, new_cells, read_reply, Command, Registers, Reply, CELLS_LENGTH, DATAGRAM_LENGTH,
     PROGRAM_LENGTH, RECORD_LENGTH,
 };
 
@@ -33,7 +33,8 @@ pub enum Answer {
     },
     Read {
         status: u8,
-        numbers: [i32; 5],
+        /// All 0 where it was refused.
+        reply: Reply,
     },
     /// Looking and setting up answer nothing.
     Set,
@@ -90,8 +91,11 @@ impl Board {
             }
             Event::Build { length, address, command } => build(length, address, command),
             Event::Read(bytes) => {
-                let (status, numbers) = read_reply(bytes.as_slice());
-                Answer::Read { status, numbers }
+                let (status, reply) = match read_reply(bytes.as_slice()) {
+                    Ok(reply) => (plain::status::DONE, reply),
+                    Err(refusal) => (refusal, Reply::default()),
+                };
+                Answer::Read { status, reply }
             }
             Event::Dump => Answer::Set,
             _ => self.set_up(event),

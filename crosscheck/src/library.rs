@@ -4,7 +4,7 @@ use dhikmarul::{place, Registers, Sample, Status, REGISTERS};
 
 use crate::board::{Answer, UNTOUCHED};
 use crate::event::{Bytes, Event, PLACES};
-use crate::plain::{CELLS_LENGTH, DATAGRAM_LENGTH, PROGRAM_LENGTH, RECORD_LENGTH};
+use crate::plain::{Reply, CELLS_LENGTH, DATAGRAM_LENGTH, PROGRAM_LENGTH, RECORD_LENGTH};
 
 /// Where the register at a place of the script's dump stands in the library's
 /// image: the dump has the axis parameters before the globals.
@@ -129,12 +129,14 @@ fn build(event: &Event) -> Answer {
 fn read(bytes: Bytes) -> Answer {
     let reply = dhikmarul::read_reply(bytes.as_slice());
     let Status(code) = reply.command_status;
-    let numbers = [
-        reply.reply_address.into(),
-        reply.module_address.into(),
-        code.into(),
-        reply.command.into(),
-        reply.value,
-    ];
-    Answer::Read { status: reply.status.0, numbers }
+    Answer::Read {
+        status: reply.status.0,
+        reply: Reply {
+            reply_address: reply.reply_address,
+            module_address: reply.module_address,
+            status: code,
+            command: reply.command,
+            value: reply.value,
+        },
+    }
 }

@@ -22,7 +22,9 @@ pub use events::new_cells;
 pub use registers::{Order, Registers, Wait};
 pub use sheet::{place_of, settable, Row, AXIS, CELLS, CELLS_LENGTH, ROWS, USER_VARIABLES};
 pub use steps::Ran;
-pub use wire::{build_command, checksum, read_reply, Command, DATAGRAM_LENGTH, RECORD_LENGTH};
+pub use wire::{
+    build_command, checksum, read_reply, Command, Reply, DATAGRAM_LENGTH, RECORD_LENGTH,
+};
 
 /// Records of a program store; as an address, the end behind the last one.
 pub const RECORDS: usize = 1024;

@@ -4,6 +4,7 @@ use std::io::{self, BufRead, Write};
 
 use crate::board::{Answer, Board};
 use crate::event::{Event, Hex};
+use crate::plain::Reply;
 
 /// The longest line that can be an event.
 const LONGEST_LINE: usize = 16_384;
@@ -58,8 +59,9 @@ fn write_answer(board: &Board, answer: Answer, out: &mut impl Write) -> io::Resu
             writeln!(out, " {status} {address} {depth}")
         }
         Answer::Built { status, buffer } => writeln!(out, " {status} {}", Hex(buffer.as_slice())),
-        Answer::Read { status, numbers: [to, from, code, command, value] } => {
-            writeln!(out, " {status} {to} {from} {code} {command} {value}")
+        Answer::Read { status, reply } => {
+            let Reply { reply_address, module_address, status: code, command, value } = reply;
+            writeln!(out, " {status} {reply_address} {module_address} {code} {command} {value}")
         }
         Answer::Set | Answer::NoEvent => writeln!(out),
     }

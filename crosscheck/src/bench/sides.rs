@@ -180,10 +180,13 @@ impl Events for Board {
 
     #[inline(always)]
     fn read(&self, bytes: &[u8]) -> u64 {
-        let reply = plain::read_reply(bytes);
-        black_box(&reply);
-        let (status, numbers) = reply;
-        together(status, u64::from(numbers[4] as u32))
+        match plain::read_reply(bytes) {
+            Ok(reply) => {
+                black_box(&reply);
+                together(plain::status::DONE, u64::from(reply.value as u32))
+            }
+            Err(refusal) => together(refusal, 0),
+        }
     }
 }
 

@@ -27,9 +27,9 @@ impl Bench {
         let command = Command { number, kind, motor, value };
         build_command(&mut bytes, self.registers.module_address, command);
         let status = self.datagram(&bytes);
-        let (read, numbers) = read_reply(&self.reply);
-        assert_eq!((read, numbers[2]), (status::DONE, status.into()));
-        (status, numbers[4])
+        let reply = read_reply(&self.reply).expect("the board's reply is one");
+        assert_eq!(reply.status, status);
+        (status, reply.value)
     }
 
     fn put(&mut self, address: usize, number: u8, kind: u8, motor: u8, value: i32) {

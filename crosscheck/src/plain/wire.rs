@@ -40,6 +40,16 @@ impl Command {
     }
 }
 
+/// A reply without its checksum.
+#[derive(Clone, Copy, Debug, Default, PartialEq, Eq)]
+pub struct Reply {
+    pub reply_address: u8,
+    pub module_address: u8,
+    pub status: u8,
+    pub command: u8,
+    pub value: i32,
+}
+
 /// A command where its seven bytes lie: in a datagram, or in a record of the
 /// program store. A field is read when it is asked for, so that a command
 /// costs nothing for the fields it does not use.
@@ -75,7 +85,7 @@ impl Seven<'_> {
 #[inline(always)]
 pub fn checksum(bytes: &Frame) -> u8 {
     let [bytes @ .., _] = bytes;
-    bytes.iter().fold(0, |sum: u8, &byte| sum.wrapping_add(byte))
+    bytes_added(u64::from_be_bytes(*bytes))
 }
 
 /// Builds a command for the board at `address`.
@@ -109,16 +119,16 @@ fn bytes_added(number: u64) -> u8 {
     (lanes + (lanes >> 16)) as u8
 }
 
-/// Reads a reply: reply address, module address, status, command, value.
+/// Reads a reply, or answers the status that refuses its bytes.
 #[inline]
-pub fn read_reply(bytes: &[u8]) -> (u8, [i32; 5]) {
+pub fn read_reply(bytes: &[u8]) -> Result<Reply, u8> {
     let Ok(bytes) = <&Frame>::try_from(bytes) else {
-        return (status::LENGTH, [0; 5]);
+        return Err(status::LENGTH);
     };
     if checksum(bytes) != bytes[8] {
-        return (status::CHECKSUM, [0; 5]);
+        return Err(status::CHECKSUM);
     }
-    let &[to, from, code, command, ref value @ .., _] = bytes;
+    let &[reply_address, module_address, status, command, ref value @ .., _] = bytes;
     let value = i32::from_be_bytes(*value);
-    (status::DONE, [to.into(), from.into(), code.into(), command.into(), value])
+    Ok(Reply { reply_address, module_address, status, command, value })
 }

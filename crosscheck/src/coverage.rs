@@ -180,18 +180,18 @@ fn sum(rows: &[Row]) -> Row {
 impl fmt::Display for Coverage {
     fn fmt(&self, f: &mut fmt::Formatter) -> fmt::Result {
         writeln!(f, "Events by kind and status")?;
-        let shown = [0, 1, 2, 3, 4, 5, 6, 20, 21, 22, 23, 100, 101];
-        head(f, &shown)?;
-        line(f, "datagram, obeyed or refused", &sum(&self.direct), &shown)?;
-        line(f, "datagram without reply", &self.not_obeyed, &shown)?;
-        line(f, "sample", &self.samples, &shown)?;
-        line(f, "tick", &self.ticks, &shown)?;
-        line(f, "run (its last step)", &self.runs, &shown)?;
-        line(f, "power-up", &self.power_ups, &shown)?;
-        line(f, "program check", &self.checks, &shown)?;
-        line(f, "build", &self.builds, &shown)?;
-        line(f, "reading", &self.reads, &shown)?;
-        line(f, "program step", &sum(&self.steps), &shown)?;
+        let shown = &STATUSES;
+        head(f, shown)?;
+        line(f, "datagram, obeyed or refused", &sum(&self.direct), shown)?;
+        line(f, "datagram without reply", &self.not_obeyed, shown)?;
+        line(f, "sample", &self.samples, shown)?;
+        line(f, "tick", &self.ticks, shown)?;
+        line(f, "run (its last step)", &self.runs, shown)?;
+        line(f, "power-up", &self.power_ups, shown)?;
+        line(f, "program check", &self.checks, shown)?;
+        line(f, "build", &self.builds, shown)?;
+        line(f, "reading", &self.reads, shown)?;
+        line(f, "program step", &sum(&self.steps), shown)?;
         writeln!(f, "\nDatagrams replied to, by command and status")?;
         by_command(f, &self.direct, &[1, 2, 3, 4, 5, 6, 100, 101])?;
         writeln!(f, "\nProgram steps, by command and status")?;

@@ -16,7 +16,8 @@ pub struct Row {
     /// What comes before the clock starts.
     pub before: Vec<Event>,
     pub events: Vec<Event>,
-    /// How often a pass has these events.
+    /// How often a pass has these events: so often that the clock, which is
+    /// read once before and once behind it, is not what is measured.
     pub times: usize,
 }
 
@@ -181,9 +182,9 @@ fn check_rows() -> Vec<Row> {
     let mut random = Random::new(SEED);
     vec![
         row("check-stop", vec![step(number::STOP, 0, 0, 0)], 1000),
-        row("check-straight", programs::straight(), 20),
-        row("check-worst", programs::every_depth_late(&mut random), 5),
-        row("check-passed", programs::every_depth_at_once(&mut random), 20),
+        row("check-straight", programs::straight(), 50),
+        row("check-worst", programs::every_depth_late(&mut random), 50),
+        row("check-passed", programs::every_depth_at_once(&mut random), 50),
     ]
 }
 
@@ -260,4 +261,16 @@ fn damaged(command: Command, damage: u8) -> Event {
 fn cut_short(command: Command) -> Event {
     let bytes = frame(BOARD, command);
     Event::Datagram(Bytes::new(&bytes.as_slice()[..8]).expect("eight bytes are few enough"))
+}
+
+#[cfg(test)]
+mod tests {
+    use super::*;
+
+    #[test]
+    fn a_pass_has_many_events() {
+        for row in rows() {
+            assert!(row.events.len() * row.times >= 50, "{}", row.name);
+        }
+    }
 }

@@ -4,7 +4,7 @@
 //! record is judged once for them, and only CSUB and RSUB ask which they are.
 
 use super::control::record_address;
-use super::direct::{bank_2, motor_zero, user_variable, KEY, UNLOCK};
+use super::direct::{bank_2, motor_zero, user_variable, wanted, Done};
 use super::sheet;
 use super::steps::judge_wait;
 use super::store::{self, Program};
@@ -57,7 +57,7 @@ struct Search {
 
 /// Checks the program begun at address 0.
 pub fn check(program: &[u8]) -> Verdict {
-    let Some(program) = store::program(program) else {
+    let Some(program) = store::parts(program) else {
         return Verdict { status: status::LENGTH, address: 0, depth: 0 };
     };
     let mut search = Search {
@@ -174,13 +174,11 @@ fn way(record: Seven) -> Result<Way, u8> {
         number::STAP | number::RSAP => {
             judge_axis(record, sheet::stored_cell(record.kind()).is_some())?;
         }
-        number::SGP => {
-            judge_settable_global(record)?;
-            wanted(global_allows(record), status::VALUE)?;
-        }
-        number::AGP => judge_settable_global(record)?,
+        number::SGP => wanted(judge_settable_global(record)?, status::VALUE)?,
+        number::AGP => judge_settable_global(record).map(|_| ())?,
         number::GGP => {
-            judge_global(record, matches!(record.kind(), 66 | 73 | 76 | 77 | 128 | 130))?;
+            let has = matches!(record.kind(), 66 | 73 | 76 | 77 | 128 | 130);
+            judge_global(record, has.then_some(true))?;
         }
         number::STGP | number::RSGP => {
             bank_2(record)?;
@@ -208,7 +206,7 @@ fn way(record: Seven) -> Result<Way, u8> {
 
 /// An axis command's motor and type; `on_sheet` says whether it has the type.
 #[inline(always)]
-fn judge_axis(record: Seven, on_sheet: bool) -> Result<(), u8> {
+fn judge_axis(record: Seven, on_sheet: bool) -> Done {
     motor_zero(record)?;
     wanted(on_sheet, status::TYPE)
 }
@@ -219,36 +217,26 @@ fn judge_settable(record: Seven) -> Result<&'static sheet::Row, u8> {
     sheet::settable(record.kind()).map(|(_, row)| row).ok_or(status::TYPE)
 }
 
+/// A global's bank and type, where it shall be set: whether it may have the
+/// record's value.
 #[inline(always)]
-fn judge_settable_global(record: Seven) -> Result<(), u8> {
-    judge_global(record, matches!(record.kind(), 66 | 73 | 76 | 77))
+fn judge_settable_global(record: Seven) -> Result<bool, u8> {
+    judge_global(record, sheet::global_allows(record.kind(), record.value()))
 }
 
-/// A global's bank and type; `in_bank_0` says whether bank 0 has the type.
+/// A global's bank and type; `in_bank_0` is what bank 0 answers to the type,
+/// if it has it. Bank 2 allows all values.
 #[inline(always)]
-fn judge_global(record: Seven, in_bank_0: bool) -> Result<(), u8> {
+fn judge_global(record: Seven, in_bank_0: Option<bool>) -> Result<bool, u8> {
     match record.motor() {
-        0 => wanted(in_bank_0, status::TYPE),
-        2 => user_variable(record).map(|_| ()),
+        0 => in_bank_0.ok_or(status::TYPE),
+        2 => user_variable(record).map(|_| true),
         _ => Err(status::VALUE),
     }
 }
 
-/// Whether SGP may set the value, its bank and type being right.
 #[inline(always)]
-fn global_allows(record: Seven) -> bool {
-    let value = record.value();
-    match (record.motor(), record.kind()) {
-        (0, 66) => (1..=255).contains(&value),
-        (0, 73) => value == KEY || value == UNLOCK,
-        (0, 76) => (0..=255).contains(&value),
-        (0, 77) => (0..=1).contains(&value),
-        _ => true,
-    }
-}
-
-#[inline(always)]
-fn judge_port(record: Seven) -> Result<(), u8> {
+fn judge_port(record: Seven) -> Done {
     match record.motor() {
         0 => type_up_to(record, 1),
         1 => type_up_to(record, 2),
@@ -258,15 +246,6 @@ fn judge_port(record: Seven) -> Result<(), u8> {
 }
 
 #[inline(always)]
-fn type_up_to(record: Seven, last: u8) -> Result<(), u8> {
+fn type_up_to(record: Seven, last: u8) -> Done {
     wanted(record.kind() <= last, status::TYPE)
-}
-
-#[inline(always)]
-fn wanted(holds: bool, refusal: u8) -> Result<(), u8> {
-    if holds {
-        Ok(())
-    } else {
-        Err(refusal)
-    }
 }

@@ -1,10 +1,10 @@
 //! Direct mode: what becomes of a datagram's command, and the control
 //! commands from 128 up.
 
-use super::direct::{Outcome, KEY};
+use super::direct::{wanted, Done, Outcome};
 use super::events::put_default_cells;
 use super::registers::{Order, Registers};
-use super::sheet::{self, Access, ROWS};
+use super::sheet::{self, Access, KEY, ROWS};
 use super::store::{Cells, Program};
 use super::wire::Seven;
 use super::{number, status, RECORDS};
@@ -50,10 +50,8 @@ impl Registers {
     }
 
     /// Download mode: puts the command at the write address.
-    fn store_record(&mut self, command: Seven, program: &mut Program) -> Result<(), u8> {
-        if command.number() == 0 {
-            return Err(status::COMMAND);
-        }
+    fn store_record(&mut self, command: Seven, program: &mut Program) -> Done {
+        wanted(command.number() != 0, status::COMMAND)?;
         self.unlocked()?;
         let record = program.get_mut(usize::from(self.write_address)).ok_or(status::VALUE)?;
         *record = *command.0;
@@ -84,10 +82,8 @@ impl Registers {
         self.drop_wait();
     }
 
-    fn run_program(&mut self, command: Seven) -> Result<(), u8> {
-        if self.download {
-            return Err(status::NOT_NOW);
-        }
+    fn run_program(&mut self, command: Seven) -> Done {
+        wanted(!self.download, status::NOT_NOW)?;
         match command.kind() {
             0 => {}
             1 => {
@@ -102,10 +98,8 @@ impl Registers {
     }
 
     /// The step's own status is not shown.
-    fn one_step(&mut self, program: &Program, cells: &mut Cells) -> Result<(), u8> {
-        if self.running || self.download {
-            return Err(status::NOT_NOW);
-        }
+    fn one_step(&mut self, program: &Program, cells: &mut Cells) -> Done {
+        wanted(!self.running && !self.download, status::NOT_NOW)?;
         self.steps(program, cells, 1);
         Ok(())
     }
@@ -118,10 +112,8 @@ impl Registers {
         self.download = false;
     }
 
-    fn start_download(&mut self, command: Seven) -> Result<(), u8> {
-        if self.running {
-            return Err(status::NOT_NOW);
-        }
+    fn start_download(&mut self, command: Seven) -> Done {
+        wanted(!self.running, status::NOT_NOW)?;
         let address = record_address(command.value())?;
         self.unlocked()?;
         self.download = true;
@@ -131,10 +123,8 @@ impl Registers {
     }
 
     /// 137: read-only parameters and all else that is not named stay.
-    fn restore_defaults(&mut self, command: Seven, cells: &mut Cells) -> Result<(), u8> {
-        if self.running {
-            return Err(status::NOT_NOW);
-        }
+    fn restore_defaults(&mut self, command: Seven, cells: &mut Cells) -> Done {
+        wanted(!self.running, status::NOT_NOW)?;
         key(command)?;
         self.unlocked()?;
         for (value, row) in self.axis.iter_mut().zip(&ROWS) {
@@ -152,7 +142,7 @@ impl Registers {
         Ok(())
     }
 
-    fn restart(&mut self, command: Seven, cells: &Cells) -> Result<(), u8> {
+    fn restart(&mut self, command: Seven, cells: &Cells) -> Done {
         key(command)?;
         self.take_cells(cells);
         Ok(())
@@ -161,9 +151,7 @@ impl Registers {
 
 /// 134: the record's value, or its other three bytes as one number.
 fn read_program(command: Seven, program: &Program) -> Outcome {
-    if command.kind() > 1 {
-        return Err(status::TYPE);
-    }
+    wanted(command.kind() <= 1, status::TYPE)?;
     let record = Seven(&program[record_address(command.value())?]);
     if command.kind() == 0 {
         return Ok(record.value());
@@ -175,18 +163,11 @@ fn read_program(command: Seven, program: &Program) -> Outcome {
 /// The value as the address of a record, 0 to 1,023.
 #[inline(always)]
 pub fn record_address(value: i32) -> Result<usize, u8> {
-    if (0..RECORDS as i32).contains(&value) {
-        Ok(value as usize)
-    } else {
-        Err(status::VALUE)
-    }
+    wanted((0..RECORDS as i32).contains(&value), status::VALUE)?;
+    Ok(value as usize)
 }
 
 /// 137 and 255 want a key, so that no stray datagram sets them off.
-fn key(command: Seven) -> Result<(), u8> {
-    if command.value() == KEY {
-        Ok(())
-    } else {
-        Err(status::VALUE)
-    }
+fn key(command: Seven) -> Done {
+    wanted(command.value() == KEY, status::VALUE)
 }

@@ -6,7 +6,7 @@
 
 use super::events::taken;
 use super::registers::{Order, Registers, P43, P50, P52};
-use super::sheet::{self, USER_VARIABLES};
+use super::sheet::{self, KEY, USER_VARIABLES};
 use super::steps::jump;
 use super::store::{read_cell, write_cell, Cells};
 use super::wire::Seven;
@@ -16,11 +16,6 @@ use super::{number, status};
 pub type Outcome = Result<i32, u8>;
 /// Nothing, or the status that refuses the command.
 pub type Done = Result<(), u8>;
-
-/// The number that locks, that resets and that restores defaults.
-pub const KEY: i32 = 1234;
-/// The number that unlocks.
-pub const UNLOCK: i32 = 4321;
 
 /// The registers that the next step wants at once. A run carries them beside
 /// the others and puts them back at its end; direct mode, which leaves two of
@@ -88,9 +83,7 @@ impl Registers {
     fn rotate(&mut self, command: Seven, velocity: i32) -> Done {
         motor_zero(command)?;
         let limit = self.axis[P43];
-        if command.value() < -limit || command.value() > limit {
-            return Err(status::VALUE);
-        }
+        wanted((-limit..=limit).contains(&command.value()), status::VALUE)?;
         self.give_order(Order::Velocity, velocity);
         Ok(())
     }
@@ -125,9 +118,7 @@ impl Registers {
     fn set_axis(&mut self, command: Seven, value: i32) -> Done {
         motor_zero(command)?;
         let (place, row) = sheet::settable(command.kind()).ok_or(status::TYPE)?;
-        if !row.allows(value) {
-            return Err(status::VALUE);
-        }
+        wanted(row.allows(value), status::VALUE)?;
         self.axis[place] = value;
         // Setting 50 acts as MVP ABS.
         if place == P50 {
@@ -171,43 +162,33 @@ impl Registers {
         Ok(())
     }
 
-    /// Globals of bank 0 reach their cells at once.
+    /// Globals of bank 0 reach their cells at once; the lock does not keep
+    /// itself from being set.
     #[inline(always)]
     fn set_bank_0(&mut self, kind: u8, value: i32, cells: &mut Cells) -> Done {
-        match kind {
+        let allowed = sheet::global_allows(kind, value).ok_or(status::TYPE)?;
+        wanted(allowed, status::VALUE)?;
+        if kind == 73 {
+            self.lock = i32::from(value == KEY);
+            write_cell(cells, sheet::CELL_73, self.lock);
+            return Ok(());
+        }
+        self.unlocked()?;
+        let cell = match kind {
             66 => {
-                let address = u8::try_from(value).map_err(|_| status::VALUE)?;
-                if address == 0 {
-                    return Err(status::VALUE);
-                }
-                self.unlocked()?;
-                self.module_address = address;
-                write_cell(cells, sheet::CELL_66, value);
-            }
-            73 => {
-                self.lock = match value {
-                    KEY => 1,
-                    UNLOCK => 0,
-                    _ => return Err(status::VALUE),
-                };
-                write_cell(cells, sheet::CELL_73, self.lock);
+                self.module_address = value as u8;
+                sheet::CELL_66
             }
             76 => {
-                let address = u8::try_from(value).map_err(|_| status::VALUE)?;
-                self.unlocked()?;
-                self.reply_address = address;
-                write_cell(cells, sheet::CELL_76, value);
+                self.reply_address = value as u8;
+                sheet::CELL_76
             }
-            77 => {
-                if !(0..=1).contains(&value) {
-                    return Err(status::VALUE);
-                }
-                self.unlocked()?;
+            _ => {
                 self.autostart = value;
-                write_cell(cells, sheet::CELL_77, value);
+                sheet::CELL_77
             }
-            _ => return Err(status::TYPE),
-        }
+        };
+        write_cell(cells, cell, value);
         Ok(())
     }
 
@@ -254,9 +235,7 @@ impl Registers {
     fn set_output(&mut self, command: Seven) -> Done {
         bank_2(command)?;
         let output = self.outputs.get_mut(usize::from(command.kind())).ok_or(status::TYPE)?;
-        if !(0..=1).contains(&command.value()) {
-            return Err(status::VALUE);
-        }
+        wanted((0..=1).contains(&command.value()), status::VALUE)?;
         *output = command.value() as u8;
         Ok(())
     }
@@ -300,11 +279,7 @@ impl Registers {
     /// Refuses with 5 while locked.
     #[inline(always)]
     pub fn unlocked(&self) -> Done {
-        if self.locked() {
-            Err(status::LOCKED)
-        } else {
-            Ok(())
-        }
+        wanted(!self.locked(), status::LOCKED)
     }
 }
 
@@ -338,30 +313,29 @@ fn arithmetic(kind: u8, left: i32, right: i32) -> Outcome {
 /// Axis commands want motor 0.
 #[inline(always)]
 pub fn motor_zero(command: Seven) -> Done {
-    if command.motor() == 0 {
-        Ok(())
-    } else {
-        Err(status::VALUE)
-    }
+    wanted(command.motor() == 0, status::VALUE)
 }
 
 /// STGP, RSGP and SIO want bank 2.
 #[inline(always)]
 pub fn bank_2(command: Seven) -> Done {
-    if command.motor() == 2 {
-        Ok(())
-    } else {
-        Err(status::VALUE)
-    }
+    wanted(command.motor() == 2, status::VALUE)
 }
 
 /// The user variable that the type names.
 #[inline(always)]
 pub fn user_variable(command: Seven) -> Result<usize, u8> {
     let variable = usize::from(command.kind());
-    if variable < USER_VARIABLES {
-        Ok(variable)
+    wanted(variable < USER_VARIABLES, status::TYPE)?;
+    Ok(variable)
+}
+
+/// The refusal of what has to hold and does not.
+#[inline(always)]
+pub fn wanted(holds: bool, refusal: u8) -> Done {
+    if holds {
+        Ok(())
     } else {
-        Err(status::TYPE)
+        Err(refusal)
     }
 }

@@ -10,7 +10,7 @@ use super::{status, GREATEST_BUDGET};
 
 /// Writes the 91 default cells.
 pub fn new_cells(cells: &mut [u8]) -> u8 {
-    match store::cells_mut(cells) {
+    match store::parts_mut(cells) {
         Some(cells) => {
             put_default_cells(cells);
             status::DONE
@@ -42,7 +42,7 @@ impl Registers {
 
     /// Power-up.
     pub fn power_up(&mut self, cells: &[u8]) -> u8 {
-        match store::cells(cells) {
+        match store::parts(cells) {
             Some(cells) => {
                 self.take_cells(cells);
                 status::DONE
@@ -85,7 +85,7 @@ impl Registers {
     ) -> u8 {
         let reply = <&mut Frame>::try_from(reply);
         let (Some(program), Some(cells), Ok(reply)) =
-            (store::program_mut(program), store::cells_mut(cells), reply)
+            (store::parts_mut(program), store::parts_mut(cells), reply)
         else {
             return status::LENGTH;
         };
@@ -148,8 +148,7 @@ impl Registers {
     /// Runs at most `budget` steps.
     #[inline]
     pub fn run(&mut self, program: &[u8], cells: &mut [u8], budget: usize) -> Ran {
-        let (Some(program), Some(cells)) = (store::program(program), store::cells_mut(cells))
-        else {
+        let (Some(program), Some(cells)) = (store::parts(program), store::parts_mut(cells)) else {
             return Ran { status: status::LENGTH, steps: 0 };
         };
         if !self.in_range() {
@@ -167,7 +166,7 @@ impl Registers {
     /// One step, whether the program is running or not: its status. For
     /// looking at a run step by step.
     pub fn step(&mut self, program: &[u8], cells: &mut [u8]) -> u8 {
-        match (store::program(program), store::cells_mut(cells)) {
+        match (store::parts(program), store::parts_mut(cells)) {
             (Some(program), Some(cells)) => self.steps(program, cells, 1).status,
             _ => status::LENGTH,
         }

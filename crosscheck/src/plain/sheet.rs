@@ -29,6 +29,24 @@ pub const DEFAULT_73: i32 = 0;
 pub const DEFAULT_76: u8 = 2;
 pub const DEFAULT_77: i32 = 0;
 
+/// The number that locks, that resets and that restores defaults.
+pub const KEY: i32 = 1234;
+/// The number that unlocks.
+pub const UNLOCK: i32 = 4321;
+
+/// Whether a global of bank 0 may be set to a value; `None` for a type that
+/// cannot be set.
+#[inline(always)]
+pub fn global_allows(kind: u8, value: i32) -> Option<bool> {
+    match kind {
+        66 => Some((1..=255).contains(&value)),
+        73 => Some(value == KEY || value == UNLOCK),
+        76 => Some((0..=255).contains(&value)),
+        77 => Some((0..=1).contains(&value)),
+        _ => None,
+    }
+}
+
 /// What may be done with a parameter.
 #[derive(Clone, Copy, Debug, PartialEq, Eq)]
 pub enum Access {

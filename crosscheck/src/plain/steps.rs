@@ -1,7 +1,7 @@
 //! Program steps: the flow commands and the run of a program.
 
 use super::control::record_address;
-use super::direct::{motor_zero, Carried, Hand, Next};
+use super::direct::{motor_zero, Carried, Done, Hand, Next};
 use super::registers::{Registers, Wait, ETO, P211, P212, P213, P55};
 use super::store::{Cells, Program};
 use super::wire::{Seven, RECORD_LENGTH};
@@ -181,7 +181,7 @@ impl Registers {
     /// Arms the count; without ticks it is the accumulator, which is judged
     /// only here.
     #[inline(always)]
-    fn arm_wait(&mut self, ticks: Option<u32>, accumulator: i32) -> Result<(), u8> {
+    fn arm_wait(&mut self, ticks: Option<u32>, accumulator: i32) -> Done {
         let count = match ticks {
             Some(count) => count,
             None => u32::try_from(accumulator).map_err(|_| status::VALUE)?,

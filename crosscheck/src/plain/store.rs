@@ -12,34 +12,22 @@ pub type Program = [[u8; RECORD_LENGTH]; RECORDS];
 /// The parameter store, big-endian two's complement.
 pub type Cells = [[u8; 4]; CELLS];
 
-/// The records of a program store, or `None` for another length.
+/// A lent store as its records or cells, or `None` for another length.
 #[inline(always)]
-pub fn program(bytes: &[u8]) -> Option<&Program> {
-    whole(bytes.as_chunks())?.try_into().ok()
+pub fn parts<const LENGTH: usize, const COUNT: usize>(
+    bytes: &[u8],
+) -> Option<&[[u8; LENGTH]; COUNT]> {
+    let (parts, rest) = bytes.as_chunks();
+    parts.try_into().ok().filter(|_| rest.is_empty())
 }
 
-/// The records of a program store that may be written.
+/// The same of a store that may be written.
 #[inline(always)]
-pub fn program_mut(bytes: &mut [u8]) -> Option<&mut Program> {
-    whole(bytes.as_chunks_mut())?.try_into().ok()
-}
-
-/// The cells of a parameter store, or `None` for another length.
-#[inline(always)]
-pub fn cells(bytes: &[u8]) -> Option<&Cells> {
-    whole(bytes.as_chunks())?.try_into().ok()
-}
-
-/// The cells of a parameter store that may be written.
-#[inline(always)]
-pub fn cells_mut(bytes: &mut [u8]) -> Option<&mut Cells> {
-    whole(bytes.as_chunks_mut())?.try_into().ok()
-}
-
-/// The parts of a store that has no bytes left over.
-#[inline(always)]
-fn whole<P, R: AsRef<[u8]>>((parts, rest): (P, R)) -> Option<P> {
-    rest.as_ref().is_empty().then_some(parts)
+pub fn parts_mut<const LENGTH: usize, const COUNT: usize>(
+    bytes: &mut [u8],
+) -> Option<&mut [[u8; LENGTH]; COUNT]> {
+    let (parts, rest) = bytes.as_chunks_mut();
+    parts.try_into().ok().filter(|_| rest.is_empty())
 }
 
 /// The number in a cell.

@@ -85,7 +85,8 @@ impl Seven<'_> {
 #[inline(always)]
 pub fn checksum(bytes: &Frame) -> u8 {
     let [bytes @ .., _] = bytes;
-    bytes_added(u64::from_be_bytes(*bytes))
+    // In whatever order: a sum is the same in all.
+    bytes_added(u64::from_ne_bytes(*bytes))
 }
 
 /// Builds a command for the board at `address`.

@@ -85,8 +85,7 @@ impl Seven<'_> {
 #[inline(always)]
 pub fn checksum(bytes: &Frame) -> u8 {
     let [bytes @ .., _] = bytes;
-    // In whatever order: a sum is the same in all.
-    bytes_added(u64::from_ne_bytes(*bytes))
+    bytes_added(u64::from_be_bytes(*bytes))
 }
 
 /// Builds a command for the board at `address`.
@@ -120,16 +119,19 @@ fn bytes_added(number: u64) -> u8 {
     (lanes + (lanes >> 16)) as u8
 }
 
-/// Reads a reply, or answers the status that refuses its bytes.
+/// Reads a reply, the eight bytes as one number, or answers the status that
+/// refuses its bytes.
 #[inline]
 pub fn read_reply(bytes: &[u8]) -> Result<Reply, u8> {
     let Ok(bytes) = <&Frame>::try_from(bytes) else {
         return Err(status::LENGTH);
     };
-    if checksum(bytes) != bytes[8] {
+    let [bytes @ .., sum] = bytes;
+    let eight = u64::from_be_bytes(*bytes);
+    if bytes_added(eight) != *sum {
         return Err(status::CHECKSUM);
     }
-    let &[reply_address, module_address, status, command, ref value @ .., _] = bytes;
-    let value = i32::from_be_bytes(*value);
-    Ok(Reply { reply_address, module_address, status, command, value })
+    let head = (eight >> 32) as u32;
+    let [reply_address, module_address, status, command] = head.to_be_bytes();
+    Ok(Reply { reply_address, module_address, status, command, value: eight as i32 })
 }

@@ -2,9 +2,10 @@
 //! what each event answers.
 
 use crate::event::{Bytes, Event};
+use crate::lent::Lent;
 use crate::plain::{
     self, check, new_cells, read_reply, Command, Registers, Reply, CELLS_LENGTH, DATAGRAM_LENGTH,
-    PROGRAM_LENGTH, RECORD_LENGTH,
+    PROGRAM_LENGTH,
 };
 
 /// The byte that fills a build's buffer before the build.
@@ -42,14 +43,8 @@ pub enum Answer {
     NoEvent,
 }
 
-/// Registers and stores.
-#[derive(Clone)]
-pub struct Board {
-    pub registers: Registers,
-    pub program: Vec<u8>,
-    pub cells: Vec<u8>,
-    pub reply: Vec<u8>,
-}
+/// The plain implementation's board.
+pub type Board = Lent<Registers>;
 
 impl Default for Board {
     fn default() -> Board {
@@ -118,27 +113,11 @@ impl Board {
     fn set_up(&mut self, event: &Event) -> Answer {
         match *event {
             Event::New => *self = Board::new(),
-            Event::Record { address, record } if self.program.len() == PROGRAM_LENGTH => {
-                let at = address * RECORD_LENGTH;
-                self.program[at..at + RECORD_LENGTH].copy_from_slice(&record);
-            }
-            Event::Cell { cell, value } if self.cells.len() == CELLS_LENGTH => {
-                self.cells[cell * 4..cell * 4 + 4].copy_from_slice(&value.to_be_bytes());
-            }
             Event::Register { place, value } if self.registers.set(place, value) => {}
-            Event::Length { which, length } => self.store(which).resize(length, 0),
+            _ if self.set_up_store(event) => {}
             _ => return Answer::NoEvent,
         }
         Answer::Set
-    }
-
-    /// The store that a script's number names.
-    fn store(&mut self, which: usize) -> &mut Vec<u8> {
-        match which {
-            0 => &mut self.program,
-            1 => &mut self.cells,
-            _ => &mut self.reply,
-        }
     }
 }
 

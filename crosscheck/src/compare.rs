@@ -130,11 +130,7 @@ impl Pair {
     }
 
     fn remember(&mut self) {
-        let (before, now) = (&mut self.before.board, &self.plain.board);
-        before.registers.clone_from(&now.registers);
-        before.program.clone_from(&now.program);
-        before.cells.clone_from(&now.cells);
-        before.reply.clone_from(&now.reply);
+        self.before.board.take_over(&self.plain.board);
         self.before.unheld.clone_from(&self.plain.unheld);
     }
 
@@ -144,12 +140,9 @@ impl Pair {
         answers: Option<(Answer, Answer)>,
     ) -> Result<Answer, String> {
         self.compared += 1;
-        let board = &self.plain.board;
         let same = answers.is_none_or(|(expected, answer)| expected == answer)
             && self.plain.image() == self.library.dumped()
-            && board.cells == self.library.cells
-            && board.reply == self.library.reply
-            && board.program == self.library.program;
+            && self.plain.board.stores() == self.library.stores();
         if same {
             return Ok(answers.map_or(Answer::Set, |(expected, _)| expected));
         }

@@ -135,6 +135,14 @@ impl Generator {
         }
     }
 
+    /// Lets so many events under test, of any kind, come next.
+    fn some_events(&mut self, count: u64, board: &Board) {
+        for _ in 0..count {
+            let event = self.any_event(board);
+            self.pending.push_back(event);
+        }
+    }
+
     /// An event under test of any kind.
     fn any_event(&mut self, board: &Board) -> Event {
         let plan = self.random.weighted(&[
@@ -336,10 +344,8 @@ impl Generator {
         };
         let value = self.corruption(place);
         self.pending.push_back(Event::Register { place, value });
-        for _ in 0..1 + self.random.below(3) {
-            let event = self.any_event(board);
-            self.pending.push_back(event);
-        }
+        let count = 1 + self.random.below(3);
+        self.some_events(count, board);
         self.pending.push_back(Event::Register { place, value: before });
     }
 
@@ -363,15 +369,13 @@ impl Generator {
     /// A store of another length, some events, and a new board.
     fn wrong_length(&mut self, board: &Board) {
         let which = self.random.below(3) as usize;
-        let right = [board.program.len(), board.cells.len(), board.reply.len()][which];
+        let right = board.stores()[which].1.len();
         let lengths =
             [0, 1, right.saturating_sub(1), right + 1, right / 2, right * 2, LONGEST_STORE];
         let length = self.random.pick(&lengths).min(LONGEST_STORE);
         self.pending.push_back(Event::Length { which, length });
-        for _ in 0..2 + self.random.below(6) {
-            let event = self.any_event(board);
-            self.pending.push_back(event);
-        }
+        let count = 2 + self.random.below(6);
+        self.some_events(count, board);
         if self.used_for == Use::Script {
             // No events while their store has another length.
             self.tweak_record(board);

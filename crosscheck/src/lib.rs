@@ -6,6 +6,7 @@ pub mod compare;
 pub mod coverage;
 pub mod event;
 pub mod generate;
+pub mod lent;
 pub mod library;
 pub mod plain;
 pub mod random;

@@ -4,7 +4,8 @@ use dhikmarul::{place, Registers, Sample, Status, REGISTERS};
 
 use crate::board::{Answer, UNTOUCHED};
 use crate::event::{Bytes, Event, PLACES};
-use crate::plain::{Reply, CELLS_LENGTH, DATAGRAM_LENGTH, PROGRAM_LENGTH, RECORD_LENGTH};
+use crate::lent::Lent;
+use crate::plain::{Reply, CELLS_LENGTH, DATAGRAM_LENGTH, PROGRAM_LENGTH};
 
 /// Where the register at a place of the script's dump stands in the library's
 /// image: the dump has the axis parameters before the globals.
@@ -17,14 +18,8 @@ pub fn image_place(at: usize) -> usize {
     }
 }
 
-/// The registers' image and the stores lent to the library.
-#[derive(Clone)]
-pub struct LibraryBoard {
-    pub registers: Registers,
-    pub program: Vec<u8>,
-    pub cells: Vec<u8>,
-    pub reply: Vec<u8>,
-}
+/// The library's board: its registers' image, and the stores lent to it.
+pub type LibraryBoard = Lent<Registers>;
 
 impl Default for LibraryBoard {
     fn default() -> LibraryBoard {
@@ -87,19 +82,10 @@ impl LibraryBoard {
     fn set_up(&mut self, event: &Event) -> Answer {
         match *event {
             Event::New => *self = LibraryBoard::new(),
-            Event::Record { address, record } => {
-                let at = address * RECORD_LENGTH;
-                self.program[at..at + RECORD_LENGTH].copy_from_slice(&record);
-            }
-            Event::Cell { cell, value } => {
-                self.cells[cell * 4..cell * 4 + 4].copy_from_slice(&value.to_be_bytes());
-            }
             // The wait's count goes in as its bits.
             Event::Register { place, value } => self.registers.0[image_place(place)] = value as i32,
-            Event::Length { which: 0, length } => self.program.resize(length, 0),
-            Event::Length { which: 1, length } => self.cells.resize(length, 0),
-            Event::Length { length, .. } => self.reply.resize(length, 0),
-            _ => {}
+            _ if self.set_up_store(event) => {}
+            _ => return Answer::NoEvent,
         }
         Answer::Set
     }

@@ -77,7 +77,7 @@ fn dump(board: &Board, out: &mut impl Write) -> io::Result<()> {
             write!(out, " {number}")?;
         }
     }
-    for store in [&board.program, &board.cells, &board.reply] {
+    for (_, store) in board.stores() {
         write!(out, " {} {}", store.len(), mix(store))?;
     }
     writeln!(out)

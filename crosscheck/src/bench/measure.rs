@@ -5,11 +5,11 @@ use std::time::Instant;
 use dhikmarul::{place, Sample};
 
 use super::rows::Row;
-use super::sides::{bench_pass, Work};
+use super::sides::{bench_pass, Side, Work};
 use crate::board::{Answer, Board};
 use crate::event::{Event, PLACES};
+use crate::lent::Lent;
 use crate::library::{image_place, LibraryBoard};
-use crate::plain::RECORD_LENGTH;
 
 /// The best time of one unit on each board.
 #[derive(Clone, Copy)]
@@ -48,10 +48,9 @@ impl Bench {
     pub fn new(row: Row) -> Result<Bench, String> {
         let mut begin = Both { library: LibraryBoard::new(), plain: Board::new() };
         for (address, command) in row.program.iter().enumerate() {
-            let at = address * RECORD_LENGTH;
-            let record = command.to_record();
-            begin.plain.program[at..at + RECORD_LENGTH].copy_from_slice(&record);
-            begin.library.program[at..at + RECORD_LENGTH].copy_from_slice(&record);
+            let record = Event::Record { address, record: command.to_record() };
+            begin.plain.set_up_store(&record);
+            begin.library.set_up_store(&record);
         }
         for event in &row.before {
             begin.carry_out(row.name, event)?;
@@ -87,30 +86,16 @@ impl Bench {
 
     /// One pass of the library; nanoseconds of one unit.
     pub fn library_pass(&mut self) -> Result<f64, String> {
-        let (now, begin) = (&mut self.now.library, &self.begin.library);
-        now.registers = begin.registers;
-        now.program.copy_from_slice(&begin.program);
-        now.cells.copy_from_slice(&begin.cells);
-        now.reply.copy_from_slice(&begin.reply);
-        let begun = Instant::now();
-        let answers = bench_pass(now, &self.work);
-        let spent = begun.elapsed().as_nanos() as f64;
-        same(self.name, "the library", now, &self.end.plain)?;
+        let (spent, answers) = timed(&mut self.now.library, &self.begin.library, &self.work);
+        same(self.name, "the library", &self.now.library, &self.end.plain)?;
         self.judge("the library", answers)?;
         Ok(spent / self.units as f64)
     }
 
     /// One pass of the plain board; nanoseconds of one unit.
     pub fn plain_pass(&mut self) -> Result<f64, String> {
-        let (now, begin) = (&mut self.now.plain, &self.begin.plain);
-        now.registers.clone_from(&begin.registers);
-        now.program.copy_from_slice(&begin.program);
-        now.cells.copy_from_slice(&begin.cells);
-        now.reply.copy_from_slice(&begin.reply);
-        let begun = Instant::now();
-        let answers = bench_pass(now, &self.work);
-        let spent = begun.elapsed().as_nanos() as f64;
-        same(self.name, "the plain board", &self.end.library, now)?;
+        let (spent, answers) = timed(&mut self.now.plain, &self.begin.plain, &self.work);
+        same(self.name, "the plain board", &self.end.library, &self.now.plain)?;
         self.judge("the plain board", answers)?;
         Ok(spent / self.units as f64)
     }
@@ -124,6 +109,18 @@ impl Bench {
         let name = self.name;
         Err(format!("{name}: {side} answers otherwise: {answers:x}, before {expected:x}"))
     }
+}
+
+/// One pass of a board from where it begins: its nanoseconds, and the number
+/// made from its answers.
+fn timed<R: Clone>(now: &mut Lent<R>, begin: &Lent<R>, work: &Work) -> (f64, u64)
+where
+    Lent<R>: Side,
+{
+    now.take_over(begin);
+    let begun = Instant::now();
+    let answers = bench_pass(now, work);
+    (begun.elapsed().as_nanos() as f64, answers)
 }
 
 /// How many units an event is: a step row counts the steps answered.
@@ -156,17 +153,11 @@ fn same(row: &str, side: &str, library: &LibraryBoard, plain: &Board) -> Result<
         let (name, left, right) = (place::name(image_place(at)), left[at], right[at]);
         return Err(format!("{row}: {side} went astray: {name}: library {left}, plain {right}"));
     }
-    let stores = [
-        ("program store", &library.program, &plain.program),
-        ("parameter store", &library.cells, &plain.cells),
-        ("reply buffer", &library.reply, &plain.reply),
-    ];
-    for (name, left, right) in stores {
-        if left != right {
-            return Err(format!("{row}: {side} went astray: the {name} differs"));
-        }
+    let mut stores = library.stores().into_iter().zip(plain.stores());
+    match stores.find(|(left, right)| left != right) {
+        Some(((name, _), _)) => Err(format!("{row}: {side} went astray: the {name} differs")),
+        None => Ok(()),
     }
-    Ok(())
 }
 
 #[cfg(test)]

@@ -43,13 +43,7 @@ pub trait Side {
     fn carry_out(&mut self, work: &Work) -> u64;
 }
 
-impl Side for LibraryBoard {
-    fn carry_out(&mut self, work: &Work) -> u64 {
-        pass(self, work)
-    }
-}
-
-impl Side for Board {
+impl<E: Events> Side for E {
     fn carry_out(&mut self, work: &Work) -> u64 {
         pass(self, work)
     }

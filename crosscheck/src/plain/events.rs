@@ -1,7 +1,7 @@
 //! The events: datagram, sample, tick, run and power-up, each judged in the
 //! paper's order before anything is touched.
 
-use super::registers::{Order, Registers, EAL, P211, P212, P213, P220, P221, P51, P52, P55};
+use super::registers::{Registers, EAL, P211, P212, P213, P220, P221, P51, P52, P55};
 use super::sheet::{self, Access, Row, ROWS};
 use super::steps::Ran;
 use super::store::{self, read_cell, write_cell, Cells};
@@ -55,8 +55,7 @@ impl Registers {
     /// default; all else 0, and running exactly if global 77 is 1.
     #[inline(always)]
     pub fn take_cells(&mut self, cells: &Cells) {
-        self.clear();
-        self.axis = sheet::DEFAULTS;
+        *self = Registers { axis: sheet::DEFAULTS, ..Registers::cleared() };
         for (cell, &place) in sheet::STORED_PLACES.iter().enumerate() {
             self.axis[place] = taken(&ROWS[place], read_cell(cells, cell));
         }
@@ -170,25 +169,6 @@ impl Registers {
             (Some(program), Some(cells)) => self.steps(program, cells, 1).status,
             _ => status::LENGTH,
         }
-    }
-
-    /// Makes the registers 0, the last comparison "equal", the stack empty and
-    /// the order stopped; the parameters are left to the caller.
-    fn clear(&mut self) {
-        self.accumulator = 0;
-        self.x = 0;
-        self.comparison = 0;
-        self.flags = [0; 4];
-        self.address = 0;
-        self.running = false;
-        self.drop_wait();
-        self.download = false;
-        self.write_address = 0;
-        self.give_order(Order::Stopped, 0);
-        self.outputs = [0; 4];
-        self.digital = [0; 2];
-        self.analog = [0; 3];
-        self.empty_stack();
     }
 }
 

@@ -42,6 +42,9 @@ pub type Carried = Result<Next, u8>;
 impl Registers {
     /// Carries out a command. What it reads or calculates goes into the hand's
     /// accumulator.
+    ///
+    /// One match for all commands, long as it is, with each of them inlined:
+    /// so a command is told apart once, and a step calls nothing.
     #[inline(always)]
     pub fn carry_out(&mut self, command: Seven, hand: &mut Hand, cells: &mut Cells) -> Carried {
         let accumulator = hand.accumulator;

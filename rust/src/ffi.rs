@@ -4,6 +4,8 @@
 //! `registers` array and the `length` bytes behind each pointer, nothing else,
 //! keeps no pointer, and Rust's borrows keep the arguments apart.
 
+use std::mem::MaybeUninit;
+
 use crate::{Ran, Reply, Status, Verdict, REGISTERS};
 
 mod c {
@@ -150,16 +152,17 @@ pub fn build_command(
 }
 
 pub fn read_reply(bytes: &[u8]) -> Reply {
-    // Begun with numbers no reply has, so that an unwritten answer shows.
-    let mut numbers = [-1; 5];
+    // Begun with nothing: whatever the bytes are, the library writes all five.
+    let mut numbers = [MaybeUninit::<i32>::uninit(); 5];
     // SAFETY: see the module's words; `numbers` outlives the call.
-    let status =
-        unsafe { c::dhikmarul_read_reply(bytes.as_ptr(), bytes.len(), numbers.as_mut_ptr()) };
+    let status = unsafe {
+        c::dhikmarul_read_reply(bytes.as_ptr(), bytes.len(), numbers.as_mut_ptr().cast())
+    };
     // One by one: a single load of all four would wait for the library's four stores. They are bytes of
     // the reply, so no cast loses anything.
     let byte = |at: usize| {
-        // SAFETY: a reference to a live number.
-        unsafe { std::ptr::read_volatile(&numbers[at]) as u8 }
+        // SAFETY: a reference to a live number, written by the library.
+        unsafe { std::ptr::read_volatile(numbers[at].as_ptr()) as u8 }
     };
     Reply {
         status: Status(status),
@@ -167,6 +170,7 @@ pub fn read_reply(bytes: &[u8]) -> Reply {
         module_address: byte(1),
         command_status: Status(byte(2)),
         command: byte(3),
-        value: numbers[4],
+        // SAFETY: written by the library.
+        value: unsafe { numbers[4].assume_init() },
     }
 }

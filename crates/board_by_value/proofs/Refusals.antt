@@ -12,7 +12,8 @@ use Rattle.rules.specs.Steps.{stepOnce}
 use Rattle.reg_image.specs.Image.{registersOf}
 use Rattle.reg_range.specs.Range.{stands}
 use Rattle.machine.specs.Alone.{StepsAlone}
-use Rattle.board_by_value.specs.Step.{After, afterTurn, refused, lent, stepped, Turns}
+use Rattle.rules.specs.RunEvent.{lent}
+use Rattle.board_by_value.specs.Step.{After, afterTurn, refused, stepped, Turns}
 
 module _ (program l m : List ℕ) where
   -- nothing changes where a step is refused

@@ -1,13 +1,13 @@
 -- One step by value: "20, then 23", then the step, whether or not the program runs.
 use Prim.Native.Nat.{ℕ}
 use mathlib.Core.Path.{_≡_}
-use mathlib.Core.Bool.{Bool, true, false, _&&_}
+use mathlib.Core.Bool.{true, false, _&&_}
 use mathlib.Core.List.{List}
 use Rattle.words.specs.Word.{pick}
-use Rattle.store.specs.Store.{isProgramStore, isParameterStore}
 use Rattle.status.specs.Status.{numberOf}
 use Rattle.board.specs.declared.Registers.{Registers}
 use Rattle.rules.specs.Steps.{Turn, stepOnce}
+use Rattle.rules.specs.RunEvent.{lent}
 use Rattle.reg_image.specs.Image.{registersOf, shaped}
 use Rattle.reg_range.specs.Range.{stands}
 
@@ -23,9 +23,6 @@ afterTurn t = record { registers = t .registers; store = t .store; status = numb
 -- nothing changes
 abbrev pub refused : ℕ → Registers → List ℕ → After
 refused n r m = record { registers = r; store = m; status = n }
-
-abbrev pub lent : List ℕ → List ℕ → Bool
-lent program m = isProgramStore program && isParameterStore m
 
 unfoldable pub stepped : List ℕ → List ℕ → List ℕ → After
 stepped program l m =

@@ -10,7 +10,8 @@ use Rattle.rules.specs.RunEvent.{Answer, afterSteps}
 use Rattle.reg_image.specs.Image.{registersOf}
 use Rattle.reg_range.specs.Range.{stands}
 use Rattle.board_runs.specs.declared.Ran.{Ran}
-use Rattle.board_runs.specs.Run.{lent, refused, ran, Runs, answered}
+use Rattle.rules.specs.RunEvent.{lent, refused}
+use Rattle.board_runs.specs.Run.{ran, Runs, answered}
 
 module _ (program : List ℕ) (budget : ℕ) (l m : List ℕ) where
   -- refused with a number, nothing changed

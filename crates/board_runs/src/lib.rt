@@ -1,5 +1,6 @@
 // The event run, in place, answering document 01's numbers.
 ghost use mathlib.Core.Path.{_≡_};
+ghost use Rattle.rules.specs.RunEvent as runs;
 ghost use Rattle.board_runs.specs.Run.{Runs};
 ghost use Rattle.board_runs.specs.Run as spec;
 use reg_image::REGISTERS;
@@ -21,7 +22,7 @@ fn refused(status: u8) -> Ran
 
 // Whether the lent stores have their lengths.
 fn lent(program: &[u8], cells: &[u8]) -> bool
-    ensures { λ r. ⌜ r ≡ spec.lent (now (program .entry)) (now (cells .entry)) ⌝ }
+    ensures { λ r. ⌜ r ≡ runs.lent (now (program .entry)) (now (cells .entry)) ⌝ }
 {
     store::is_program_store(program) & store::is_parameter_store(cells)
 }

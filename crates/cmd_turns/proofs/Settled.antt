@@ -26,6 +26,7 @@ use Rattle.rules.specs.Deciding.{decided, worked}
 use Rattle.rules.specs.Direct.{Direct, direct, answered, answer, afterWork, directed}
 use Rattle.rules.specs.Direct as directing
 use Rattle.rules.specs.Outcome.{Changed, changed, done, refused}
+use Rattle.rules.specs.Obey.{afterDirect}
 use Rattle.reg_image.specs.With.{inCore, withAddress}
 use Rattle.cmd_turns.specs.declared.Left.the-variants.{Stops}
 use Rattle.cmd_turns.specs.Turn as turns
@@ -91,19 +92,7 @@ module _ (r : Registers) (m : List ℕ) where
 
   -- ---- direct mode
   abbrev changes : Direct → Changed
-  changes d =
-      changed
-      (done (d .status) (d .value)
-      (record {
-        core = d .core;
-        download = r .download;
-        outputs = d .outputs;
-        digital = r .digital;
-        analog = r .analog;
-        entries = r .entries;
-        values = d .values;
-      }))
-      (d .store)
+  changes d = afterDirect d r
 
   -- a command that changes something, by its effect
   abbrev worked-out : Command → Turn → Changed

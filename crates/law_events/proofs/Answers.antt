@@ -11,7 +11,8 @@ use Rattle.reg_range.specs.Range.{stands}
 use Rattle.board_events.specs.Standing.{Told, Leaving}
 use Rattle.board_datagrams.specs.Datagram.{Answers}
 use Rattle.board_runs.specs.Run.{Runs}
-use Rattle.board_runs.specs.Run as runs
+use Rattle.board_runs.specs.Run as image-runs
+use Rattle.rules.specs.RunEvent as runs
 use Rattle.board_runs.specs.declared.Ran.{Ran}
 use Rattle.law_rows.specs.Rows.{Numbers}
 use Rattle.law_rows.proofs.Places.{one-image}
@@ -58,7 +59,7 @@ one-run program budget l m r k c r' k' c' i j x y =
     let s = x .status ∙ sym (y .status) in
     let t = x .steps ∙ sym (y .steps) in
     let shut = shut-run (runs.lent program m) (stands l) (leb budget 1000) in (
-      λ i. runs.answered (s i) (t i),
+      λ i. image-runs.answered (s i) (t i),
       same-image l k k' i j (x .stays) (y .stays) (x .makes ∙ sym (y .makes)) (λ e. x .kept (shut e)) (λ e. y .kept (shut e)),
       x .store ∙ sym (y .store),
     )

@@ -27,6 +27,7 @@ use Rattle.rules.proofs.ControllingCases.{by-judge}
 use Rattle.rules.specs.Outcome.{Changed}
 use Rattle.rules.specs.Obey as commands
 use Rattle.rules.specs.RunEvent.{Answer, afterSteps}
+use Rattle.rules.specs.RunEvent as runs
 use Rattle.replying.specs.Reply.{byteOf}
 use Rattle.rules.specs.Datagram as datagrams
 use Rattle.rules.specs.Datagram.{Board, board, lent, received, obeyedBy}
@@ -34,7 +35,6 @@ use Rattle.reg_image.specs.Image.{registersOf}
 use Rattle.reg_range.specs.Range.{stands}
 use Rattle.board_datagrams.specs.Datagram.{Answers, answered}
 use Rattle.board_runs.specs.Run.{Runs, ran}
-use Rattle.board_runs.specs.Run as runs
 use Rattle.board_runs.specs.declared.Ran.{Ran}
 use Rattle.law_rows.proofs.Rules.{done-open}
 use Rattle.law_events.specs.Steps.{Steps, Ends, before, singleSteps, held, skipped}

@@ -21,7 +21,8 @@ use Rattle.reg_image.specs.Image.{registersOf}
 use Rattle.reg_image.specs.With.{inCore}
 use Rattle.reg_range.specs.Range.{stands}
 use Rattle.board_datagrams.specs.Datagram.{Answers}
-use Rattle.board_runs.specs.Run.{Runs, lent}
+use Rattle.rules.specs.RunEvent.{lent}
+use Rattle.board_runs.specs.Run.{Runs}
 use Rattle.board_runs.specs.declared.Ran.{Ran}
 use Rattle.law_events.specs.Waits.{waitHolds}
 

@@ -41,7 +41,6 @@ use Rattle.board_events.specs.Standing.{Told, Is, Leaving}
 use Rattle.board_events.specs.Events.{tickStatus, sampleOf, sampleStatus}
 use Rattle.board_datagrams.specs.Datagram.{Answers, answered}
 use Rattle.board_runs.specs.Run.{Runs, ran}
-use Rattle.board_runs.specs.Run as runs-of
 use Rattle.board_runs.specs.declared.Ran.{Ran}
 use Rattle.law_rows.specs.Rows.{Samples, Ticks, Happens, power-up, sample, tick, datagram, run, Row, none, also, SincePowerUp, since, Numbers}
 use Rattle.law_rows.specs.Laws.{Laws}
@@ -180,15 +179,15 @@ module _ (l : List ℕ) (h : stands l ≡ true) where
   run-never-23 : (program : List ℕ) (budget : ℕ) (m : List ℕ) (r : Ran) (k m' : List ℕ) → Runs program budget l m r k m' → r .status ≡ 23 → ⊥
   unfolding ran
   run-never-23 program budget m r k m' a e =
-      either (λ (y : runs.Answer). r .status ≡ y .status → ⊥) (runs-of.lent program m) _ (runs-of.refused 20 (registersOf l) m)
-      (λ _. either (λ (y : runs.Answer). r .status ≡ y .status → ⊥) (leb budget 1000) _ (runs-of.refused 22 (registersOf l) m)
+      either (λ (y : runs.Answer). r .status ≡ y .status → ⊥) (runs.lent program m) _ (runs.refused 20 (registersOf l) m)
+      (λ _. either (λ (y : runs.Answer). r .status ≡ y .status → ⊥) (leb budget 1000) _ (runs.refused 22 (registersOf l) m)
       (λ _ q. no-23 (steps false program budget (registersOf l) m .status) (sym q ∙ e)) (λ _ q. omega arith))
       (λ _ q. omega arith) (rw h at (a .status))
 
 -- ---- refusals
 module _ (r : Registers) (m : List ℕ) (y : runs.Answer) where
   abbrev run-of : Bool → Bool → Bool → runs.Answer
-  run-of a b c = pick a (pick b (pick c y (runs-of.refused 22 r m)) (runs-of.refused 23 r m)) (runs-of.refused 20 r m)
+  run-of a b c = pick a (pick b (pick c y (runs.refused 22 r m)) (runs.refused 23 r m)) (runs.refused 20 r m)
 
   shut-run : (a b c : Bool) → a && (b && c) ≡ false → (run-of a b c .store ≡ m) × (run-of a b c .steps ≡ 0)
   shut-run true true true q = absurd (true≢false q)
@@ -197,10 +196,10 @@ module _ (r : Registers) (m : List ℕ) (y : runs.Answer) where
   shut-run false b c q = (refl, refl)
 
 run-refused : (program : List ℕ) (budget : ℕ) (l m : List ℕ) (r : Ran) (k m' : List ℕ) → Runs program budget l m r k m'
-    → runs-of.lent program m && (stands l && leb budget 1000) ≡ false → (k ≡ l) × (m' ≡ m) × (r .steps ≡ 0)
+    → runs.lent program m && (stands l && leb budget 1000) ≡ false → (k ≡ l) × (m' ≡ m) × (r .steps ≡ 0)
 unfolding ran
 run-refused program budget l m r k m' a e =
-    let s = shut-run (registersOf l) m _ (runs-of.lent program m) (stands l) (leb budget 1000) e in
+    let s = shut-run (registersOf l) m _ (runs.lent program m) (stands l) (leb budget 1000) e in
     (a .kept e, a .store ∙ s .0, a .steps ∙ s .1)
 
 shut-datagram : (x : Board) (y : After) (a c : Bool) → a && c ≡ false → pick a (pick c y (unchanged 23 x)) (unchanged 20 x) .board ≡ x

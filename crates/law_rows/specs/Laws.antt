@@ -11,7 +11,7 @@ use Rattle.reg_image.specs.Image.{registersOf, shaped}
 use Rattle.reg_range.specs.Range.{stands}
 use Rattle.board_datagrams.specs.Datagram.{Answers}
 use Rattle.board_runs.specs.Run.{Runs}
-use Rattle.board_runs.specs.Run as runs
+use Rattle.rules.specs.RunEvent as runs
 use Rattle.board_runs.specs.declared.Ran.{Ran}
 use Rattle.law_rows.specs.Rows.{PowersUp, Samples, Ticks, Happens, Row, SincePowerUp, Numbers}
 use Rattle.numbered.specs.Check.{Checks}

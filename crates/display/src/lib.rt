@@ -40,7 +40,7 @@ pub fn read_reply(s: &[u8]) -> Received
         return Received::Length;
     }
     if checksum::is_right(s) {
-        let value = words::word_at(s, 4);
+        let value = words::word_in(&s[4..8]);
         Received::Read(Reply {
             reply_address: s[0],
             module_address: s[1],

@@ -7,6 +7,7 @@ use lib.Dec.{leb}
 use Rattle.words.specs.Word.{pick}
 use Rattle.words.specs.declared.Word.{Word}
 use Rattle.wire.specs.Frame.{commandAt}
+use Rattle.wire.specs.declared.Command.{Command}
 use Rattle.status.specs.declared.Status.the-variants.{Done, Value}
 use Rattle.board.specs.declared.Registers.{Registers}
 use Rattle.reg_image.specs.Image.{registersOf, shaped}
@@ -18,9 +19,9 @@ use Rattle.cmd_turns.specs.Deed.{doing, seen}
 use Rattle.machine.specs.declared.Gone.{Gone}
 use Rattle.machine.specs.Applied.{Kept}
 
--- the deed is right for the record at a place
-abbrev pub Right : List ℕ → ℕ → Word → ℕ → Registers → List ℕ → Deed → Type 0
-Right program p a n r m d = doing d (seen a n r) m ≡ turned (commandAt program p) (seen a n r) m
+-- the deed is right for a record
+abbrev pub Right : Command → Word → ℕ → Registers → List ℕ → Deed → Type 0
+Right c a n r m d = doing d (seen a n r) m ≡ turned c (seen a n r) m
 
 abbrev pub isGoing : Left → Bool
 isGoing Goes = true

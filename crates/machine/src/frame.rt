@@ -19,7 +19,7 @@ use cmd_turns::Obeyed;
 use reg_image::REGISTERS;
 use status::Status;
 use wire::Command;
-use wire::command_at;
+use wire::command_in;
 use words::Word;
 
 fn refused(status: Status) -> Obeyed
@@ -99,7 +99,7 @@ pub fn direct(image: &mut [u32; REGISTERS], store: &mut [u8], frame: &[u8]) -> O
     if frame.len() != 9 {
         return refused(Status::Unknown);
     }
-    let c = command_at(frame, 1);
+    let c = command_in(&frame[1..8]);
     if judge::is_flow(c.number) {
         return refused(Status::Unavailable);
     }

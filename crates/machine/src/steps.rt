@@ -3,6 +3,7 @@
 ghost use Prim.Native.Nat.{_+_, _*_, _≤_};
 ghost use mathlib.Core.Path.{_≡_};
 ghost use lib.ListN.{length, getD};
+ghost use Rattle.wire.specs.Frame.{commandAt};
 ghost use Rattle.registers.specs.Registers.{nextAddress};
 ghost use Rattle.status.specs.declared.Status.the-variants as status;
 ghost use Rattle.cmd_turns.specs.declared.Left.the-variants as left;
@@ -18,49 +19,48 @@ use cmd_turns::Deed;
 use cmd_turns::Left;
 use reg_image::REGISTERS;
 use status::Status;
-use wire::command_at;
+use wire::command_in;
 use words::Word;
 
 fn decide(
     number: u8,
-    p: usize,
-    program: &[u8],
+    seven: &[u8],
     accumulator: Word,
     address: u32,
     next: u16,
     image: &[u32; REGISTERS],
     store: &[u8],
 ) -> Deed
-    requires { ⌜ (p + 7 ≤ length (now program)) × (number ≡ getD (now program) p 0) × (nextAddress address ≡ next) ⌝ }
-    ensures { λ r. ⌜ spec.Right (now (program .entry)) p accumulator address (registersOf (now (image .entry))) (now (store .entry)) r ⌝ }
+    requires { ⌜ (number ≡ getD (now seven) 0 0) × (nextAddress address ≡ next) ⌝ }
+    ensures { λ r. ⌜ spec.Right (commandAt (now (seven .entry)) 0) accumulator address (registersOf (now (image .entry))) (now (store .entry)) r ⌝ }
 {
     match number {
-        1 => cmd_axis::right(command_at(program, p), image),
-        2 => cmd_axis::left(command_at(program, p), image),
-        3 => cmd_axis::stop(command_at(program, p)),
-        4 => cmd_axis::mvp(command_at(program, p), image),
-        5 => cmd_axis::sap(command_at(program, p)),
-        6 => cmd_axis::gap(command_at(program, p), image),
-        7 => cmd_axis::stap(command_at(program, p), image),
-        8 => cmd_axis::rsap(command_at(program, p), store),
-        9 => cmd_globals::sgp(command_at(program, p), image),
-        10 => cmd_globals::ggp(command_at(program, p), address, image),
-        11 => cmd_globals::stgp(command_at(program, p), image),
-        12 => cmd_globals::rsgp(command_at(program, p), store),
-        14 => cmd_globals::sio(command_at(program, p)),
-        15 => cmd_globals::gio(command_at(program, p), image),
-        19 => cmd_numbers::calc(command_at(program, p), accumulator),
-        20 => cmd_numbers::comp(command_at(program, p), accumulator),
-        21 => cmd_flow::jc(command_at(program, p), accumulator, next, image),
-        22 => cmd_flow::ja(command_at(program, p)),
-        23 => cmd_flow::csub(command_at(program, p), image),
+        1 => cmd_axis::right(command_in(seven), image),
+        2 => cmd_axis::left(command_in(seven), image),
+        3 => cmd_axis::stop(command_in(seven)),
+        4 => cmd_axis::mvp(command_in(seven), image),
+        5 => cmd_axis::sap(command_in(seven)),
+        6 => cmd_axis::gap(command_in(seven), image),
+        7 => cmd_axis::stap(command_in(seven), image),
+        8 => cmd_axis::rsap(command_in(seven), store),
+        9 => cmd_globals::sgp(command_in(seven), image),
+        10 => cmd_globals::ggp(command_in(seven), address, image),
+        11 => cmd_globals::stgp(command_in(seven), image),
+        12 => cmd_globals::rsgp(command_in(seven), store),
+        14 => cmd_globals::sio(command_in(seven)),
+        15 => cmd_globals::gio(command_in(seven), image),
+        19 => cmd_numbers::calc(command_in(seven), accumulator),
+        20 => cmd_numbers::comp(command_in(seven), accumulator),
+        21 => cmd_flow::jc(command_in(seven), accumulator, next, image),
+        22 => cmd_flow::ja(command_in(seven)),
+        23 => cmd_flow::csub(command_in(seven), image),
         24 => cmd_flow::rsub(image),
-        27 => cmd_flow::wait(command_at(program, p), accumulator, image),
+        27 => cmd_flow::wait(command_in(seven), accumulator, image),
         28 => Deed::Halt,
-        33 => cmd_numbers::calcx(command_at(program, p), accumulator, image),
-        34 => cmd_axis::aap(command_at(program, p), accumulator),
-        35 => cmd_globals::agp(command_at(program, p), accumulator, image),
-        36 => cmd_numbers::clear(command_at(program, p)),
+        33 => cmd_numbers::calcx(command_in(seven), accumulator, image),
+        34 => cmd_axis::aap(command_in(seven), accumulator),
+        35 => cmd_globals::agp(command_in(seven), accumulator, image),
+        36 => cmd_numbers::clear(command_in(seven)),
         _ => Deed::Nothing,
     }
 }
@@ -89,7 +89,15 @@ fn step(
     let p = first + address as usize * 7;
     let next = (address + 1) as u16;
     let number = program[p];
-    let deed = decide(number, p, program, accumulator, address, next, image, store);
+    let deed = decide(
+        number,
+        &program[p..p + 7],
+        accumulator,
+        address,
+        next,
+        image,
+        store,
+    );
     apply(deed, accumulator, address, image, store)
 }
 

@@ -6,7 +6,7 @@ use checksum::is_right;
 use wire::Command;
 use wire::Reply;
 use wire::Written;
-use wire::command_at;
+use wire::command_in;
 use wire::put_frame;
 
 // What the board makes of a datagram.
@@ -29,7 +29,7 @@ pub fn take_command(s: &[u8], ours: u8) -> Taken
         return Taken::NotOurs;
     }
     if is_right(s) {
-        Taken::Whole(command_at(s, 1))
+        Taken::Whole(command_in(&s[1..8]))
     } else {
         Taken::Damaged(s[1])
     }

@@ -23,6 +23,7 @@ use Rattle.wire.specs.Laws.{Changed, Laws}
 use Rattle.wire.specs.declared.Written.{Written}
 use Rattle.wire.specs.declared.Written.the-variants.{Done, Length}
 use Rattle.checksum.proofs.Nine.{nine}
+use Rattle.wire.proofs.Parts.{command-part}
 
 pub made-right : (a b c d : ℕ) (v : ℤ) → rightFrame (frame a b c d v) ≡ true
 unfolding rightFrame frame
@@ -133,6 +134,7 @@ one-written Length Length h = refl
 pub laws : Laws
 laws =
     record {
+      in-part = command-part;
       made-right = made-right;
       made-value = made-value;
       right-made = right-made;

@@ -1,3 +1,4 @@
 pub mod Sevens
+pub mod Parts
 pub mod Frames
 pub mod Examples

@@ -33,7 +33,7 @@ frame address b c d v = summed (address ∷ seven b c d (fourOf v))
 abbrev pub commandFrame : ℕ → Command → List ℕ
 commandFrame address c = frame address (c .number) (c .kind) (c .motor) (c .value .v)
 
--- the seven bytes of a command at a place
+-- the command of the seven bytes at a place, 0 for each that is missing
 abbrev pub commandAt : List ℕ → ℕ → Command
 commandAt s at =
     record { number = getD s at 0; kind = getD s (at + 1) 0; motor = getD s (at + 2) 0; value = word (wordAt s (at + 3)) }

@@ -1,18 +1,18 @@
 -- What a user of frames relies on: what is written is right and reads back, a right frame is the one of its fields, and
 -- just how much an 8-bit sum finds.
-use Prim.Native.Nat.{ℕ, _+_, _%_, _<_}
+use Prim.Native.Nat.{ℕ, _+_, _%_, _≤_, _<_}
 use mathlib.Core.Path.{_≡_}
 use mathlib.Core.Bool.{true, false}
 use mathlib.Core.List.{List}
 use lib.Dec.{eqb}
 use lib.IntN.{ℤ}
-use lib.ListN.{getD, set}
+use lib.ListN.{getD, set, take, drop}
 use mir.Syntax.{w32}
 use mir.Val.{SFits}
 use Rattle.words.specs.Bytes.{wordAt}
 use Rattle.words.specs.Laws.{AllBytes}
 use Rattle.checksum.specs.Checksum.{rightFrame}
-use Rattle.wire.specs.Frame.{frame, writtenStatus}
+use Rattle.wire.specs.Frame.{frame, commandAt, writtenStatus}
 use Rattle.wire.specs.declared.Written.{Written}
 
 -- a right frame in which the byte at place i becomes another byte, b
@@ -24,6 +24,8 @@ pub record Changed (s : List ℕ) (i b : ℕ) : Type 0 where
   pub other : getD s i 0 ≡ b → ⊥
 
 pub record Laws : Type 0 where
+  -- the command at the start of a part of seven bytes or more is the one that stands at the part's place
+  pub in-part : (s : List ℕ) (at n : ℕ) → 7 ≤ n → commandAt (take n (drop at s)) 0 ≡ commandAt s at
   pub made-right : (address b c d : ℕ) (v : ℤ) → rightFrame (frame address b c d v) ≡ true
   pub made-value : (address b c d : ℕ) (v : ℤ) → SFits w32 v → wordAt (frame address b c d v) 4 ≡ v
   pub right-made : (s : List ℕ) → AllBytes s → rightFrame s ≡ true

@@ -1,8 +1,10 @@
 -- `serial::take_command` meets its contract: each return by the tests that led to it. Assumes nothing.
 use mathlib.Core.Path.{sym, _∙_}
+use native.Mathlib.Omega.{arith}
 use borrow.Author.Needs.{needs}
 use borrow.Author.Tests.{eq-eqb, ne-eqb}
 use lib.ListN.{length, getD}
+use Rattle.wire.proofs.Parts.{command-part}
 use Rattle.serial.specs.Serial.{takenOf}
 use Rattle.serial.proofs.take_command.Statement.{statement}
 use Rattle.serial.proofs.take_command.Tie as tie
@@ -21,12 +23,12 @@ returns-2 c =
 returns-3 : tie.Need-returns-3
 unfolding takenOf
 returns-3 c =
-    let a = c .before .before .before in
+    let a = c .before .before .before .before in
     let i = a .before .before in
     let x = i .before .before .args in
     simp (
-      c .command-at .ensures,
-      sym (c .before .before .is-right .ensures) ∙ c .before .if3 .taken,
+      c .command-in .ensures ∙ command-part (x .s .now) 1 7 (omega arith),
+      sym (c .before .before .before .is-right .ensures) ∙ c .before .before .if3 .taken,
       eq-eqb (getD (x .s .now) 0 0) (x .ours) (a .if2 .left),
       eq-eqb (length (x .s .now)) 9 (i .if1 .left),
     )
@@ -51,6 +53,9 @@ take-command-spec =
     (λ c. search needs)
     returns-2
     (λ c κs. search needs)
+    (λ c. search needs)
+    (λ c. search needs)
+    (λ c. search needs)
     (λ c κs. search needs)
     (λ c. search needs)
     returns-3

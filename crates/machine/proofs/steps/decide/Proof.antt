@@ -20,7 +20,7 @@ returns c =
     let x = i .before .before .before in
     let r = seen (x .args .accumulator) (x .args .address) (registersOf (x .args .image .now)) in
     c .right .ensures (x .args .accumulator) (x .args .address) (x .args .store .now)
-    ∙ ap (λ (e : Command). turned e r (x .args .store .now)) (told 1 (d .command-at .result) (commandAt (x .args .program .now) (x .args .p)) (d .command-at .ensures) (sym (x .pre .1) ∙ i .match .keys1))
+    ∙ ap (λ (e : Command). turned e r (x .args .store .now)) (told 1 (d .command-in .result) (commandAt (x .args .seven .now) 0) (d .command-in .ensures) (sym (x .pre .0) ∙ i .match .keys1))
 
 returns-2 : tie.Need-returns-2
 returns-2 c =
@@ -29,7 +29,7 @@ returns-2 c =
     let x = i .before .before .before in
     let r = seen (x .args .accumulator) (x .args .address) (registersOf (x .args .image .now)) in
     c .left .ensures (x .args .accumulator) (x .args .address) (x .args .store .now)
-    ∙ ap (λ (e : Command). turned e r (x .args .store .now)) (told 2 (d .command-at2 .result) (commandAt (x .args .program .now) (x .args .p)) (d .command-at2 .ensures) (sym (x .pre .1) ∙ i .match .keys2))
+    ∙ ap (λ (e : Command). turned e r (x .args .store .now)) (told 2 (d .command-in2 .result) (commandAt (x .args .seven .now) 0) (d .command-in2 .ensures) (sym (x .pre .0) ∙ i .match .keys2))
 
 returns-3 : tie.Need-returns-3
 returns-3 c =
@@ -38,7 +38,7 @@ returns-3 c =
     let x = i .before .before .before in
     let r = seen (x .args .accumulator) (x .args .address) (registersOf (x .args .image .now)) in
     c .stop .ensures (registersOf (x .args .image .now)) (x .args .accumulator) (x .args .address) (x .args .store .now)
-    ∙ ap (λ (e : Command). turned e r (x .args .store .now)) (told 3 (d .command-at3 .result) (commandAt (x .args .program .now) (x .args .p)) (d .command-at3 .ensures) (sym (x .pre .1) ∙ i .match .keys3))
+    ∙ ap (λ (e : Command). turned e r (x .args .store .now)) (told 3 (d .command-in3 .result) (commandAt (x .args .seven .now) 0) (d .command-in3 .ensures) (sym (x .pre .0) ∙ i .match .keys3))
 
 returns-4 : tie.Need-returns-4
 returns-4 c =
@@ -47,7 +47,7 @@ returns-4 c =
     let x = i .before .before .before in
     let r = seen (x .args .accumulator) (x .args .address) (registersOf (x .args .image .now)) in
     c .mvp .ensures (x .args .accumulator) (x .args .address) (x .args .store .now)
-    ∙ ap (λ (e : Command). turned e r (x .args .store .now)) (told 4 (d .command-at4 .result) (commandAt (x .args .program .now) (x .args .p)) (d .command-at4 .ensures) (sym (x .pre .1) ∙ i .match .keys4))
+    ∙ ap (λ (e : Command). turned e r (x .args .store .now)) (told 4 (d .command-in4 .result) (commandAt (x .args .seven .now) 0) (d .command-in4 .ensures) (sym (x .pre .0) ∙ i .match .keys4))
 
 returns-5 : tie.Need-returns-5
 returns-5 c =
@@ -56,7 +56,7 @@ returns-5 c =
     let x = i .before .before .before in
     let r = seen (x .args .accumulator) (x .args .address) (registersOf (x .args .image .now)) in
     c .sap .ensures (registersOf (x .args .image .now)) (x .args .accumulator) (x .args .address) (x .args .store .now)
-    ∙ ap (λ (e : Command). turned e r (x .args .store .now)) (told 5 (d .command-at5 .result) (commandAt (x .args .program .now) (x .args .p)) (d .command-at5 .ensures) (sym (x .pre .1) ∙ i .match .keys5))
+    ∙ ap (λ (e : Command). turned e r (x .args .store .now)) (told 5 (d .command-in5 .result) (commandAt (x .args .seven .now) 0) (d .command-in5 .ensures) (sym (x .pre .0) ∙ i .match .keys5))
 
 returns-6 : tie.Need-returns-6
 returns-6 c =
@@ -65,7 +65,7 @@ returns-6 c =
     let x = i .before .before .before in
     let r = seen (x .args .accumulator) (x .args .address) (registersOf (x .args .image .now)) in
     c .gap .ensures (x .args .accumulator) (x .args .address) (x .args .store .now)
-    ∙ ap (λ (e : Command). turned e r (x .args .store .now)) (told 6 (d .command-at6 .result) (commandAt (x .args .program .now) (x .args .p)) (d .command-at6 .ensures) (sym (x .pre .1) ∙ i .match .keys6))
+    ∙ ap (λ (e : Command). turned e r (x .args .store .now)) (told 6 (d .command-in6 .result) (commandAt (x .args .seven .now) 0) (d .command-in6 .ensures) (sym (x .pre .0) ∙ i .match .keys6))
 
 returns-7 : tie.Need-returns-7
 returns-7 c =
@@ -74,7 +74,7 @@ returns-7 c =
     let x = i .before .before .before in
     let r = seen (x .args .accumulator) (x .args .address) (registersOf (x .args .image .now)) in
     c .stap .ensures (x .args .accumulator) (x .args .address) (x .args .store .now)
-    ∙ ap (λ (e : Command). turned e r (x .args .store .now)) (told 7 (d .command-at7 .result) (commandAt (x .args .program .now) (x .args .p)) (d .command-at7 .ensures) (sym (x .pre .1) ∙ i .match .keys7))
+    ∙ ap (λ (e : Command). turned e r (x .args .store .now)) (told 7 (d .command-in7 .result) (commandAt (x .args .seven .now) 0) (d .command-in7 .ensures) (sym (x .pre .0) ∙ i .match .keys7))
 
 returns-8 : tie.Need-returns-8
 returns-8 c =
@@ -83,7 +83,7 @@ returns-8 c =
     let x = i .before .before .before in
     let r = seen (x .args .accumulator) (x .args .address) (registersOf (x .args .image .now)) in
     c .rsap .ensures (registersOf (x .args .image .now)) (x .args .accumulator) (x .args .address)
-    ∙ ap (λ (e : Command). turned e r (x .args .store .now)) (told 8 (d .command-at8 .result) (commandAt (x .args .program .now) (x .args .p)) (d .command-at8 .ensures) (sym (x .pre .1) ∙ i .match .keys8))
+    ∙ ap (λ (e : Command). turned e r (x .args .store .now)) (told 8 (d .command-in8 .result) (commandAt (x .args .seven .now) 0) (d .command-in8 .ensures) (sym (x .pre .0) ∙ i .match .keys8))
 
 returns-9 : tie.Need-returns-9
 returns-9 c =
@@ -92,7 +92,7 @@ returns-9 c =
     let x = i .before .before .before in
     let r = seen (x .args .accumulator) (x .args .address) (registersOf (x .args .image .now)) in
     c .sgp .ensures (x .args .accumulator) (x .args .address) (x .args .store .now)
-    ∙ ap (λ (e : Command). turned e r (x .args .store .now)) (told 9 (d .command-at9 .result) (commandAt (x .args .program .now) (x .args .p)) (d .command-at9 .ensures) (sym (x .pre .1) ∙ i .match .keys9))
+    ∙ ap (λ (e : Command). turned e r (x .args .store .now)) (told 9 (d .command-in9 .result) (commandAt (x .args .seven .now) 0) (d .command-in9 .ensures) (sym (x .pre .0) ∙ i .match .keys9))
 
 returns-10 : tie.Need-returns-10
 returns-10 c =
@@ -101,7 +101,7 @@ returns-10 c =
     let x = i .before .before .before in
     let r = seen (x .args .accumulator) (x .args .address) (registersOf (x .args .image .now)) in
     c .ggp .ensures (x .args .accumulator) (x .args .store .now)
-    ∙ ap (λ (e : Command). turned e r (x .args .store .now)) (told 10 (d .command-at10 .result) (commandAt (x .args .program .now) (x .args .p)) (d .command-at10 .ensures) (sym (x .pre .1) ∙ i .match .keys10))
+    ∙ ap (λ (e : Command). turned e r (x .args .store .now)) (told 10 (d .command-in10 .result) (commandAt (x .args .seven .now) 0) (d .command-in10 .ensures) (sym (x .pre .0) ∙ i .match .keys10))
 
 returns-11 : tie.Need-returns-11
 returns-11 c =
@@ -110,7 +110,7 @@ returns-11 c =
     let x = i .before .before .before in
     let r = seen (x .args .accumulator) (x .args .address) (registersOf (x .args .image .now)) in
     c .stgp .ensures (x .args .accumulator) (x .args .address) (x .args .store .now)
-    ∙ ap (λ (e : Command). turned e r (x .args .store .now)) (told 11 (d .command-at11 .result) (commandAt (x .args .program .now) (x .args .p)) (d .command-at11 .ensures) (sym (x .pre .1) ∙ i .match .keys11))
+    ∙ ap (λ (e : Command). turned e r (x .args .store .now)) (told 11 (d .command-in11 .result) (commandAt (x .args .seven .now) 0) (d .command-in11 .ensures) (sym (x .pre .0) ∙ i .match .keys11))
 
 returns-12 : tie.Need-returns-12
 returns-12 c =
@@ -119,7 +119,7 @@ returns-12 c =
     let x = i .before .before .before in
     let r = seen (x .args .accumulator) (x .args .address) (registersOf (x .args .image .now)) in
     c .rsgp .ensures (registersOf (x .args .image .now)) (x .args .accumulator) (x .args .address)
-    ∙ ap (λ (e : Command). turned e r (x .args .store .now)) (told 12 (d .command-at12 .result) (commandAt (x .args .program .now) (x .args .p)) (d .command-at12 .ensures) (sym (x .pre .1) ∙ i .match .keys12))
+    ∙ ap (λ (e : Command). turned e r (x .args .store .now)) (told 12 (d .command-in12 .result) (commandAt (x .args .seven .now) 0) (d .command-in12 .ensures) (sym (x .pre .0) ∙ i .match .keys12))
 
 returns-13 : tie.Need-returns-13
 returns-13 c =
@@ -128,7 +128,7 @@ returns-13 c =
     let x = i .before .before .before in
     let r = seen (x .args .accumulator) (x .args .address) (registersOf (x .args .image .now)) in
     c .sio .ensures (registersOf (x .args .image .now)) (x .args .accumulator) (x .args .address) (x .args .store .now)
-    ∙ ap (λ (e : Command). turned e r (x .args .store .now)) (told 14 (d .command-at13 .result) (commandAt (x .args .program .now) (x .args .p)) (d .command-at13 .ensures) (sym (x .pre .1) ∙ i .match .keys13))
+    ∙ ap (λ (e : Command). turned e r (x .args .store .now)) (told 14 (d .command-in13 .result) (commandAt (x .args .seven .now) 0) (d .command-in13 .ensures) (sym (x .pre .0) ∙ i .match .keys13))
 
 returns-14 : tie.Need-returns-14
 returns-14 c =
@@ -137,7 +137,7 @@ returns-14 c =
     let x = i .before .before .before in
     let r = seen (x .args .accumulator) (x .args .address) (registersOf (x .args .image .now)) in
     c .gio .ensures (x .args .accumulator) (x .args .address) (x .args .store .now)
-    ∙ ap (λ (e : Command). turned e r (x .args .store .now)) (told 15 (d .command-at14 .result) (commandAt (x .args .program .now) (x .args .p)) (d .command-at14 .ensures) (sym (x .pre .1) ∙ i .match .keys14))
+    ∙ ap (λ (e : Command). turned e r (x .args .store .now)) (told 15 (d .command-in14 .result) (commandAt (x .args .seven .now) 0) (d .command-in14 .ensures) (sym (x .pre .0) ∙ i .match .keys14))
 
 returns-15 : tie.Need-returns-15
 returns-15 c =
@@ -146,7 +146,7 @@ returns-15 c =
     let x = i .before .before .before in
     let r = seen (x .args .accumulator) (x .args .address) (registersOf (x .args .image .now)) in
     c .calc .ensures (registersOf (x .args .image .now)) (x .args .address) (x .args .store .now)
-    ∙ ap (λ (e : Command). turned e r (x .args .store .now)) (told 19 (d .command-at15 .result) (commandAt (x .args .program .now) (x .args .p)) (d .command-at15 .ensures) (sym (x .pre .1) ∙ i .match .keys15))
+    ∙ ap (λ (e : Command). turned e r (x .args .store .now)) (told 19 (d .command-in15 .result) (commandAt (x .args .seven .now) 0) (d .command-in15 .ensures) (sym (x .pre .0) ∙ i .match .keys15))
 
 returns-16 : tie.Need-returns-16
 returns-16 c =
@@ -155,7 +155,7 @@ returns-16 c =
     let x = i .before .before .before in
     let r = seen (x .args .accumulator) (x .args .address) (registersOf (x .args .image .now)) in
     c .comp .ensures (registersOf (x .args .image .now)) (x .args .address) (x .args .store .now)
-    ∙ ap (λ (e : Command). turned e r (x .args .store .now)) (told 20 (d .command-at16 .result) (commandAt (x .args .program .now) (x .args .p)) (d .command-at16 .ensures) (sym (x .pre .1) ∙ i .match .keys16))
+    ∙ ap (λ (e : Command). turned e r (x .args .store .now)) (told 20 (d .command-in16 .result) (commandAt (x .args .seven .now) 0) (d .command-in16 .ensures) (sym (x .pre .0) ∙ i .match .keys16))
 
 returns-17 : tie.Need-returns-17
 returns-17 c =
@@ -163,8 +163,8 @@ returns-17 c =
     let i = d .before in
     let x = i .before .before .before in
     let r = seen (x .args .accumulator) (x .args .address) (registersOf (x .args .image .now)) in
-    c .jc .ensures (x .args .address) (x .pre .2) (x .args .store .now)
-    ∙ ap (λ (e : Command). turned e r (x .args .store .now)) (told 21 (d .command-at17 .result) (commandAt (x .args .program .now) (x .args .p)) (d .command-at17 .ensures) (sym (x .pre .1) ∙ i .match .keys17))
+    c .jc .ensures (x .args .address) (x .pre .1) (x .args .store .now)
+    ∙ ap (λ (e : Command). turned e r (x .args .store .now)) (told 21 (d .command-in17 .result) (commandAt (x .args .seven .now) 0) (d .command-in17 .ensures) (sym (x .pre .0) ∙ i .match .keys17))
 
 returns-18 : tie.Need-returns-18
 returns-18 c =
@@ -173,7 +173,7 @@ returns-18 c =
     let x = i .before .before .before in
     let r = seen (x .args .accumulator) (x .args .address) (registersOf (x .args .image .now)) in
     c .ja .ensures (registersOf (x .args .image .now)) (x .args .accumulator) (x .args .address) (x .args .store .now)
-    ∙ ap (λ (e : Command). turned e r (x .args .store .now)) (told 22 (d .command-at18 .result) (commandAt (x .args .program .now) (x .args .p)) (d .command-at18 .ensures) (sym (x .pre .1) ∙ i .match .keys18))
+    ∙ ap (λ (e : Command). turned e r (x .args .store .now)) (told 22 (d .command-in18 .result) (commandAt (x .args .seven .now) 0) (d .command-in18 .ensures) (sym (x .pre .0) ∙ i .match .keys18))
 
 returns-19 : tie.Need-returns-19
 returns-19 c =
@@ -182,15 +182,15 @@ returns-19 c =
     let x = i .before .before .before in
     let r = seen (x .args .accumulator) (x .args .address) (registersOf (x .args .image .now)) in
     c .csub .ensures (x .args .accumulator) (x .args .address) (x .args .store .now)
-    ∙ ap (λ (e : Command). turned e r (x .args .store .now)) (told 23 (d .command-at19 .result) (commandAt (x .args .program .now) (x .args .p)) (d .command-at19 .ensures) (sym (x .pre .1) ∙ i .match .keys19))
+    ∙ ap (λ (e : Command). turned e r (x .args .store .now)) (told 23 (d .command-in19 .result) (commandAt (x .args .seven .now) 0) (d .command-in19 .ensures) (sym (x .pre .0) ∙ i .match .keys19))
 
 returns-20 : tie.Need-returns-20
 returns-20 c =
     let i = c .before in
     let x = i .before .before .before in
     let r = seen (x .args .accumulator) (x .args .address) (registersOf (x .args .image .now)) in
-    c .rsub .ensures (commandAt (x .args .program .now) (x .args .p)) (x .args .accumulator) (x .args .address) (x .args .store .now)
-    ∙ ap (λ (e : Command). turned e r (x .args .store .now)) (told 24 (commandAt (x .args .program .now) (x .args .p)) (commandAt (x .args .program .now) (x .args .p)) refl (sym (x .pre .1) ∙ i .match .keys20))
+    c .rsub .ensures (commandAt (x .args .seven .now) 0) (x .args .accumulator) (x .args .address) (x .args .store .now)
+    ∙ ap (λ (e : Command). turned e r (x .args .store .now)) (told 24 (commandAt (x .args .seven .now) 0) (commandAt (x .args .seven .now) 0) refl (sym (x .pre .0) ∙ i .match .keys20))
 
 returns-21 : tie.Need-returns-21
 returns-21 c =
@@ -199,13 +199,13 @@ returns-21 c =
     let x = i .before .before .before in
     let r = seen (x .args .accumulator) (x .args .address) (registersOf (x .args .image .now)) in
     c .wait .ensures (x .args .address) (x .args .store .now)
-    ∙ ap (λ (e : Command). turned e r (x .args .store .now)) (told 27 (d .command-at20 .result) (commandAt (x .args .program .now) (x .args .p)) (d .command-at20 .ensures) (sym (x .pre .1) ∙ i .match .keys21))
+    ∙ ap (λ (e : Command). turned e r (x .args .store .now)) (told 27 (d .command-in20 .result) (commandAt (x .args .seven .now) 0) (d .command-in20 .ensures) (sym (x .pre .0) ∙ i .match .keys21))
 
 returns-22 : tie.Need-returns-22
 unfolding judged turned through isFlow flowed doing
 returns-22 c =
     let x = c .before .before .before in
-    let e : getD (x .args .program .now) (x .args .p) 0 ≡ 28 = sym (x .pre .1) ∙ c .match .keys22 in
+    let e : getD (x .args .seven .now) 0 0 ≡ 28 = sym (x .pre .0) ∙ c .match .keys22 in
     simp e
 
 returns-23 : tie.Need-returns-23
@@ -215,7 +215,7 @@ returns-23 c =
     let x = i .before .before .before in
     let r = seen (x .args .accumulator) (x .args .address) (registersOf (x .args .image .now)) in
     c .calcx .ensures (x .args .address) (x .args .store .now)
-    ∙ ap (λ (e : Command). turned e r (x .args .store .now)) (told 33 (d .command-at21 .result) (commandAt (x .args .program .now) (x .args .p)) (d .command-at21 .ensures) (sym (x .pre .1) ∙ i .match .keys23))
+    ∙ ap (λ (e : Command). turned e r (x .args .store .now)) (told 33 (d .command-in21 .result) (commandAt (x .args .seven .now) 0) (d .command-in21 .ensures) (sym (x .pre .0) ∙ i .match .keys23))
 
 returns-24 : tie.Need-returns-24
 returns-24 c =
@@ -224,7 +224,7 @@ returns-24 c =
     let x = i .before .before .before in
     let r = seen (x .args .accumulator) (x .args .address) (registersOf (x .args .image .now)) in
     c .aap .ensures (registersOf (x .args .image .now)) (x .args .address) (x .args .store .now)
-    ∙ ap (λ (e : Command). turned e r (x .args .store .now)) (told 34 (d .command-at22 .result) (commandAt (x .args .program .now) (x .args .p)) (d .command-at22 .ensures) (sym (x .pre .1) ∙ i .match .keys24))
+    ∙ ap (λ (e : Command). turned e r (x .args .store .now)) (told 34 (d .command-in22 .result) (commandAt (x .args .seven .now) 0) (d .command-in22 .ensures) (sym (x .pre .0) ∙ i .match .keys24))
 
 returns-25 : tie.Need-returns-25
 returns-25 c =
@@ -233,7 +233,7 @@ returns-25 c =
     let x = i .before .before .before in
     let r = seen (x .args .accumulator) (x .args .address) (registersOf (x .args .image .now)) in
     c .agp .ensures (x .args .address) (x .args .store .now)
-    ∙ ap (λ (e : Command). turned e r (x .args .store .now)) (told 35 (d .command-at23 .result) (commandAt (x .args .program .now) (x .args .p)) (d .command-at23 .ensures) (sym (x .pre .1) ∙ i .match .keys25))
+    ∙ ap (λ (e : Command). turned e r (x .args .store .now)) (told 35 (d .command-in23 .result) (commandAt (x .args .seven .now) 0) (d .command-in23 .ensures) (sym (x .pre .0) ∙ i .match .keys25))
 
 returns-26 : tie.Need-returns-26
 returns-26 c =
@@ -242,14 +242,14 @@ returns-26 c =
     let x = i .before .before .before in
     let r = seen (x .args .accumulator) (x .args .address) (registersOf (x .args .image .now)) in
     c .clear .ensures (registersOf (x .args .image .now)) (x .args .accumulator) (x .args .address) (x .args .store .now)
-    ∙ ap (λ (e : Command). turned e r (x .args .store .now)) (told 36 (d .command-at24 .result) (commandAt (x .args .program .now) (x .args .p)) (d .command-at24 .ensures) (sym (x .pre .1) ∙ i .match .keys26))
+    ∙ ap (λ (e : Command). turned e r (x .args .store .now)) (told 36 (d .command-in24 .result) (commandAt (x .args .seven .now) 0) (d .command-in24 .ensures) (sym (x .pre .0) ∙ i .match .keys26))
 
 returns-27 : tie.Need-returns-27
 unfolding judged turned doing
 returns-27 c =
     let t = c .match .rest in
     simp (
-      ← c .before .before .before .pre .1,
+      ← c .before .before .before .pre .0,
       ne-eqb _ _ (t .0 .0 .0 .0 .0 .0 .0 .0 .0 .0 .0 .0 .0 .0 .0 .0 .0 .0 .0 .0 .0 .0 .0 .0 .0 .1),
       ne-eqb _ _ (t .0 .0 .0 .0 .0 .0 .0 .0 .0 .0 .0 .0 .0 .0 .0 .0 .0 .0 .0 .0 .0 .0 .0 .0 .1),
       ne-eqb _ _ (t .0 .0 .0 .0 .0 .0 .0 .0 .0 .0 .0 .0 .0 .0 .0 .0 .0 .0 .0 .0 .0 .0 .0 .1),

@@ -1,8 +1,10 @@
 -- `machine::steps::step` meets its contract. Assumes nothing.
 use native.Mathlib.Omega.{arith}
-use Prim.Native.Nat.{_<_}
-use mathlib.Core.Path.{refl, _∙_}
+use Prim.Native.Nat.{_+_, _*_, _-_, _<_}
+use mathlib.Core.Path.{sym, _∙_}
 use borrow.Author.Tests.{le-leb, lt-leb, lt-ltb}
+use Rattle.words.proofs.Parts.{byte-part}
+use Rattle.wire.proofs.Parts.{command-part}
 use Rattle.machine.specs.Steps.{stepTurn}
 use Rattle.machine.proofs.Keeps.{same}
 use borrow.Author.Needs.{needs}
@@ -15,24 +17,32 @@ returns c = record { makes = simp (le-leb _ _ (c .if1 .taken)); kept = same _; s
 
 decide-requires : tie.Need-decide-requires
 decide-requires c κs =
-    let i = c .before .before .before in
+    let i = c .before .before .before .before in
     let x = i .before .before .before in
+    let p = x .args .first + x .args .address * 7 in
     let h : x .args .address < 1024 = omega (arith, i .if1 .left, x .pre .1) in
-    (omega (arith, i .if1 .left, x .pre .0), refl, rw (lt-ltb (x .args .address) 1024 h))
+    (sym (byte-part (x .args .program .now) p (p + 7 - p) (omega arith)), rw (lt-ltb (x .args .address) 1024 h))
 
 returns-2 : tie.Need-returns-2
 unfolding stepTurn
 returns-2 c =
     let a = c .before .before in
     let d = a .before .before .before in
-    let i = d .before .before .before .before in
-    record { makes = simp (lt-leb _ _ (i .if1 .left)) (a .apply .ensures .makes ∙ d .decide .ensures); kept = a .apply .ensures .kept; stays = a .apply .ensures .stays }
+    let i = d .before .before .before .before .before in
+    let x = i .before .before .before .args in
+    let p = x .first + x .address * 7 in
+    let e = rw (command-part (x .program .now) p (p + 7 - p) (omega arith)) at (d .decide .ensures) in
+    record { makes = simp (lt-leb _ _ (i .if1 .left)) (a .apply .ensures .makes ∙ e); kept = a .apply .ensures .kept; stays = a .apply .ensures .stays }
 
 pub step-spec : {M : Type 1} → statement M
 step-spec =
     tie.close
     (tie.spec
     returns
+    (λ c. search needs)
+    (λ c. search needs)
+    (λ c. search needs)
+    (λ c. search needs)
     (λ c. search needs)
     (λ c. search needs)
     (λ c. search needs)

@@ -22,7 +22,7 @@ use Rattle.rows.specs.declared.Access.the-variants.{Rwe}
 use Rattle.sheet.specs.Places.{allBelow}
 use Rattle.sheet.proofs.Below.{below}
 use Rattle.sheet.proofs.Counts.{own, rise}
-use Rattle.sheet.proofs.Sets.{set-row}
+use Rattle.sheet.proofs.Sets.{set-row, whole-range}
 
 above : List Row → ℕ → ℕ → Bool
 above t j i = ltb (rowAt t i .number) (rowAt t j .number)
@@ -63,9 +63,10 @@ takes i w = take-by (rowAt rows i) w (allowed (rowAt rows i) (w .v)) refl (defau
 
 -- every word is within 32 bits
 pub user-variable : (z : ℤ) → SFits w32 z → allowed userRow z ≡ true
-unfolding allowed
-user-variable (pos n) f = let h = f .sfits in simp (le-leb n 2147483647 (omega arith))
-user-variable (negsuc n) f = let h = f .sfits in simp (le-leb n 2147483647 (omega arith))
+user-variable (pos n) f = let h = f .sfits in rw (whole-range userRow (pos n) refl) (simp (le-leb n 2147483647 (omega arith)))
+user-variable (negsuc n) f =
+    let h = f .sfits in
+    rw (whole-range userRow (negsuc n) refl) (simp (le-leb n 2147483647 (omega arith)))
 
 none-14 : (k : ℕ) → 3 < k → oneOf (0 ∷ 1 ∷ 3 ∷ []) (pos k) ≡ false
 none-14 k h = simp (ne-eqb k 0 (λ e. omega arith), ne-eqb k 1 (λ e. omega arith), ne-eqb k 3 (λ e. omega arith))
@@ -90,6 +91,7 @@ laws =
       defaults = defaults;
       takes = takes;
       user-variable = user-variable;
+      whole-range = whole-range;
       set-14 = set-row 14 Rwe 3 11 (pos 3) (0 ∷ 1 ∷ 3 ∷ []) tt none-14;
       set-102 = set-row 102 Rwe 2 5 (pos 0) (0 ∷ 2 ∷ []) tt none-102;
       not-1 = refl;

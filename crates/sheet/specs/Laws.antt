@@ -9,7 +9,8 @@ use lib.ListN.{length, getD, replicate}
 use mir.Syntax.{w32}
 use mir.Val.{SFits}
 use Rattle.words.specs.declared.Word.{Word}
-use Rattle.rows.specs.Row.{allowed, taken, stored}
+use Rattle.order.specs.Order.{inRange}
+use Rattle.rows.specs.Row.{anyValue, allowed, taken, stored}
 use Rattle.sheet.specs.Sheet.{axis, globals, readOnly, rweRows, userRow}
 use Rattle.sheet.specs.Rows.{parameters, rows, rowAt, cells, cellOf}
 use Rattle.sheet.specs.Places.{axisPlace}
@@ -51,6 +52,8 @@ pub record Laws : Type 0 where
   pub takes : (i : ℕ) (w : Word) → T (allowed (rowAt rows i) (taken (rowAt rows i) w .v))
   -- "Bank 2: 0 to 55, all values"
   pub user-variable : (z : ℤ) → SFits w32 z → allowed userRow z ≡ true
+  -- "low..high": a row with the mask of all ones allows just these values
+  pub whole-range : (r : Row) (z : ℤ) → r .mask ≡ anyValue → allowed r z ≡ inRange (r .low .v) (r .high .v) z
   -- "14: {0,1,3}", "102: {0,2}", of all whole numbers
   pub set-14 : (z : ℤ) → allowed (parameter 14) z ≡ oneOf (0 ∷ 1 ∷ 3 ∷ []) z
   pub set-102 : (z : ℤ) → allowed (parameter 102) z ≡ oneOf (0 ∷ 2 ∷ []) z

@@ -4,6 +4,7 @@ use mathlib.Core.List.{List, [], _∷_, _++_, map}
 use lib.Dec.{ltb}
 use lib.IntN.{ℤ, pos, negsuc}
 use Rattle.words.specs.Word.{pick, word}
+use Rattle.rows.specs.Row.{anyValue}
 use Rattle.rows.specs.declared.Row.{Row}
 use Rattle.rows.specs.declared.Access.{Access}
 use Rattle.rows.specs.declared.Access.the-variants.{Rwe, Rw, R}
@@ -11,7 +12,7 @@ use Rattle.rows.specs.declared.Access.the-variants.{Rwe, Rw, R}
 -- "Number: low..high default", for each of the numbers
 abbrev pub span : Access → List ℕ → ℤ → ℤ → ℤ → List Row
 span a ns low high d =
-    map (λ (n : ℕ). record { number = n; access = a; low = word low; high = word high; standard = word d; mask = 0 }) ns
+    map (λ (n : ℕ). record { number = n; access = a; low = word low; high = word high; standard = word d; mask = anyValue }) ns
 
 abbrev pub bits : List ℕ → ℕ
 bits [] = 0
@@ -97,5 +98,5 @@ userRow =
       low = word (negsuc 2147483647);
       high = word (pos 2147483647);
       standard = word (pos 0);
-      mask = 0;
+      mask = anyValue;
     }

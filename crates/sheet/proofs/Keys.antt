@@ -15,7 +15,7 @@ abbrev pub Nest : Type 0 → ℕ → List ℕ → Type 0
 Nest A n [] = A
 Nest A n (k ∷ ks) = Nest (A × (n ≡ k → ⊥)) n ks
 
-pub NoneOf : ℕ → List ℕ → Type 0
+unfoldable pub NoneOf : ℕ → List ℕ → Type 0
 NoneOf n [] = Unit
 NoneOf n (k ∷ ks) = (n ≡ k → ⊥) × NoneOf n ks
 

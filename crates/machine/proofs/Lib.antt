@@ -6,3 +6,4 @@ pub mod Runs
 pub mod Ends
 pub mod Blind
 pub mod Shown
+pub mod Framed

@@ -66,7 +66,8 @@ fn show_address(c: Command, image: &[u32; REGISTERS]) -> Obeyed
     }
 }
 
-// One step of the frame's record. What it carries goes back unless the command is refused or only reads.
+// One step of the frame's record. What it carries goes back unless the command is refused or only reads. The
+// value to answer is read again behind the step, so that nothing of the command is kept across it.
 fn obey_record(image: &mut [u32; REGISTERS], store: &mut [u8], frame: &[u8], c: Command) -> Obeyed
     requires { ⌜ (length (now frame) ≡ 9) × (c ≡ commandAt (now frame) 1) × (isFlow (c .number) ≡ false) × ((eqb (c .number) 10 && eqb (c .kind) 130) ≡ false) ⌝ }
     ensures { λ r. ⌜ Obeys (obeying.direct c (registersOf (now (image .entry))) (now (store .entry))) (now (image .entry)) r (now (image .exit)) (now (store .exit)) ⌝ }
@@ -87,7 +88,7 @@ fn obey_record(image: &mut [u32; REGISTERS], store: &mut [u8], frame: &[u8], c: 
     reg_image::set_accumulator(image, accumulator);
     Obeyed {
         status: status,
-        value: answer(c, accumulator),
+        value: answer(command_in(&frame[1..8]), accumulator),
     }
 }
 

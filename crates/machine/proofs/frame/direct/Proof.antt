@@ -3,28 +3,22 @@ use mathlib.Core.Path.{_≡_, refl, sym, ap, _∙_}
 use mathlib.Core.Bool.{Bool, true, false, _&&_}
 use mathlib.Core.List.{List}
 use Prim.Native.Nat.{ℕ}
-use native.Mathlib.Omega.{arith}
 use borrow.Author.Tests.{eqb-true}
 use lib.Dec.{eqb}
-use lib.ListN.{take, drop}
 use Rattle.words.proofs.Bools.{each}
 use Rattle.wire.specs.Frame.{commandAt}
 use Rattle.wire.specs.declared.Command.{Command}
-use Rattle.wire.proofs.Parts.{command-part}
 use Rattle.judge.specs.Judge.{isFlow}
 use Rattle.rules.specs.Outcome.{Changed}
 use Rattle.rules.specs.Obey as obeying
 use Rattle.reg_image.specs.Image.{registersOf}
 use Rattle.cmd_turns.specs.declared.Obeyed.{Obeyed}
 use Rattle.cmd_turns.specs.Obeys.{Obeys}
+use Rattle.machine.proofs.Framed.{behind}
 use Rattle.machine.proofs.Shown.{flow-refused}
 use borrow.Author.Needs.{needs}
 use Rattle.machine.proofs.frame.direct.Statement.{statement}
 use Rattle.machine.proofs.frame.direct.Tie as tie
-
--- the command in the seven bytes behind the first of a frame
-behind : (frame : List ℕ) (c : Command) → c ≡ commandAt (take 7 (drop 1 frame)) 0 → c ≡ commandAt frame 1
-behind frame c e = e ∙ command-part frame 1 7 (omega arith)
 
 returns : tie.Need-returns
 returns c = (λ h. absurd (c .before .if1 .taken h), λ _. (c .refused .ensures, record { image = refl; store = refl }))

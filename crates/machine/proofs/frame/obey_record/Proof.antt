@@ -1,27 +1,16 @@
 -- `machine::frame::obey_record` meets its contract. Assumes nothing.
-use mathlib.Core.Path.{_≡_, refl, sym, ap, _∙_}
-use native.Mathlib.Omega.{arith}
-use mathlib.Core.Bool.{Bool, true, false}
+use mathlib.Core.Path.{sym, ap, _∙_}
 use borrow.Author.Tests.{not-true, not-false}
-use Rattle.words.specs.declared.Word.{Word}
-use Rattle.wire.specs.Frame.{commandAt}
 use Rattle.wire.specs.declared.Command.{Command}
-use Rattle.status.specs.declared.Status.the-variants.{Done}
 use Rattle.rules.specs.Outcome.{Changed}
-use Rattle.board.specs.declared.Registers.{Registers}
 use Rattle.reg_image.specs.Image.{registersOf}
-use Rattle.cmd_turns.specs.declared.Left.the-variants.{Goes}
 use Rattle.cmd_turns.specs.declared.Obeyed.{Obeyed}
-use Rattle.cmd_turns.specs.Turn.{Turn, turn, turned}
-use Rattle.cmd_turns.specs.Deed.{seen}
-use Rattle.machine.specs.Steps.{Walk, going}
-use Rattle.machine.proofs.Blind.{atZero, one-step, when-refused, when-read, when-worked}
+use Rattle.machine.specs.Direct.{answer}
+use Rattle.machine.proofs.Blind.{when-refused, when-read, when-worked}
+use Rattle.machine.proofs.Framed.{behind, one-record}
 use borrow.Author.Needs.{needs}
 use Rattle.machine.proofs.frame.obey_record.Statement.{statement}
 use Rattle.machine.proofs.frame.obey_record.Tie as tie
-
-at-zero : (r : Registers) (w : Word) → w ≡ r .core .accumulator → seen w 0 r ≡ atZero r
-at-zero r w p = rw p
 
 returns : tie.Need-returns
 returns c =
@@ -30,11 +19,7 @@ returns c =
     let a = g .before .before .before in
     let z = a .before .before .before .before in
     let x = z .args in
-    let e =
-    ap (λ (w : Walk). w .turn) (g .go .ensures .makes)
-    ∙ ap (λ (r : Registers). going (x .frame .now) 1 1 1 (turn r (x .store .now) Done Goes) .turn) (at-zero (registersOf (x .image .now)) (a .accumulator .result) (a .accumulator .ensures))
-    ∙ one-step (x .frame .now) (registersOf (x .image .now)) (x .store .now)
-    ∙ ap (λ (y : Command). turned y (atZero (registersOf (x .image .now))) (x .store .now)) (sym (z .pre .1)) in
+    let e = one-record (x .frame .now) (registersOf (x .image .now)) (x .store .now) (a .accumulator .result) (x .c) (a .accumulator .ensures) (z .pre .1) (g .go .ensures .makes) in
     let w = when-refused (x .image .now) _ (g .go .ensures .kept) (x .store .now) _ (x .c) (z .pre .2) (z .pre .3) (g .go .result .accumulator) (g .go .result .address) (g .go .result .status) (g .go .result .left) e
     (sym (d .is-done .ensures) ∙ not-true (d .is-done .result) (c .before .if1 .taken)) in
     record {
@@ -53,11 +38,7 @@ returns-2 c =
     let a = g .before .before .before in
     let z = a .before .before .before .before in
     let x = z .args in
-    let e =
-    ap (λ (w : Walk). w .turn) (g .go .ensures .makes)
-    ∙ ap (λ (r : Registers). going (x .frame .now) 1 1 1 (turn r (x .store .now) Done Goes) .turn) (at-zero (registersOf (x .image .now)) (a .accumulator .result) (a .accumulator .ensures))
-    ∙ one-step (x .frame .now) (registersOf (x .image .now)) (x .store .now)
-    ∙ ap (λ (y : Command). turned y (atZero (registersOf (x .image .now))) (x .store .now)) (sym (z .pre .1)) in
+    let e = one-record (x .frame .now) (registersOf (x .image .now)) (x .store .now) (a .accumulator .result) (x .c) (a .accumulator .ensures) (z .pre .1) (g .go .ensures .makes) in
     let w = when-read (x .image .now) _ (g .go .ensures .kept) (x .store .now) _ (x .c) (z .pre .2) (z .pre .3) (g .go .result .accumulator) (g .go .result .address) (g .go .result .status) (g .go .result .left) e
     (sym (d .is-done .ensures) ∙ not-false (d .is-done .result) (b .before .if1 .left)) (sym (b .is-reading .ensures) ∙ c .if2 .taken) in
     record {
@@ -70,7 +51,8 @@ returns-2 c =
 
 returns-3 : tie.Need-returns-3
 returns-3 c =
-    let v = c .before in
+    let k = c .before in
+    let v = k .before .before in
     let i = v .before .before in
     let b = i .before in
     let d = b .before .before in
@@ -78,16 +60,15 @@ returns-3 c =
     let a = g .before .before .before in
     let z = a .before .before .before .before in
     let x = z .args in
-    let e =
-    ap (λ (w : Walk). w .turn) (g .go .ensures .makes)
-    ∙ ap (λ (r : Registers). going (x .frame .now) 1 1 1 (turn r (x .store .now) Done Goes) .turn) (at-zero (registersOf (x .image .now)) (a .accumulator .result) (a .accumulator .ensures))
-    ∙ one-step (x .frame .now) (registersOf (x .image .now)) (x .store .now)
-    ∙ ap (λ (y : Command). turned y (atZero (registersOf (x .image .now))) (x .store .now)) (sym (z .pre .1)) in
+    let e = one-record (x .frame .now) (registersOf (x .image .now)) (x .store .now) (a .accumulator .result) (x .c) (a .accumulator .ensures) (z .pre .1) (g .go .ensures .makes) in
     let w = when-worked (x .image .now) _ (g .go .ensures .kept) (x .store .now) _ (x .c) (z .pre .2) (z .pre .3) (g .go .result .accumulator) (g .go .result .address) (g .go .result .status) (g .go .result .left) e
     (sym (d .is-done .ensures) ∙ not-false (d .is-done .result) (b .before .if1 .left)) (sym (b .is-reading .ensures) ∙ i .if2 .left) in
     record {
       status = ap (λ (y : Changed). y .obeyed .status) (sym w);
-      value = c .answer .ensures ∙ ap (λ (y : Changed). y .obeyed .value) (sym w);
+      value =
+          c .answer .ensures
+          ∙ ap (λ (y : Command). answer y (g .go .result .accumulator)) (behind (x .frame .now) _ (k .command-in .ensures) ∙ sym (z .pre .1))
+          ∙ ap (λ (y : Changed). y .obeyed .value) (sym w);
       makes = v .set-accumulator .ensures .makes ∙ ap (λ (y : Changed). y .obeyed .registers) (sym w);
       store = ap (λ (y : Changed). y .store) (sym w);
       stays = λ t. v .set-accumulator .ensures .stays (g .go .ensures .stays t);
@@ -106,6 +87,10 @@ obey-record-spec =
     (λ c κs. search needs)
     (λ c. search needs)
     returns-2
+    (λ c κs. search needs)
+    (λ c. search needs)
+    (λ c. search needs)
+    (λ c. search needs)
     (λ c κs. search needs)
     (λ c κs. search needs)
     (λ c. search needs)

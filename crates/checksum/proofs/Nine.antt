@@ -19,12 +19,12 @@ nine P k (a ∷ b ∷ c ∷ d ∷ e ∷ f ∷ g ∷ h ∷ []) p = absurd (omega 
 nine P k (a ∷ b ∷ c ∷ d ∷ e ∷ f ∷ g ∷ h ∷ i ∷ []) p = k a b c d e f g h i
 nine P k (a ∷ b ∷ c ∷ d ∷ e ∷ f ∷ g ∷ h ∷ i ∷ j ∷ xs) p = absurd (omega arith)
 
--- nine stores leave nine elements, whatever stood there
+-- nine stores, in the order in which a frame is written, leave nine elements, whatever stood there
 pub stored : (a b c d e f g h i : ℕ) (l : List ℕ) → length l ≡ 9
-    → set (set (set (set (set (set (set (set (set l 0 a) 1 b) 2 c) 3 d) 4 e) 5 f) 6 g) 7 h) 8 i ≡ a ∷ b ∷ c ∷ d ∷ e ∷ f ∷ g ∷ h ∷ i ∷ []
+    → set (set (set (set (set (set (set (set (set l 4 e) 5 f) 6 g) 7 h) 1 b) 2 c) 3 d) 0 a) 8 i ≡ a ∷ b ∷ c ∷ d ∷ e ∷ f ∷ g ∷ h ∷ i ∷ []
 stored a b c d e f g h i =
     nine
-    (λ (l : List ℕ). set (set (set (set (set (set (set (set (set l 0 a) 1 b) 2 c) 3 d) 4 e) 5 f) 6 g) 7 h) 8 i ≡ a ∷ b ∷ c ∷ d ∷ e ∷ f ∷ g ∷ h ∷ i ∷ [])
+    (λ (l : List ℕ). set (set (set (set (set (set (set (set (set l 4 e) 5 f) 6 g) 7 h) 1 b) 2 c) 3 d) 0 a) 8 i ≡ a ∷ b ∷ c ∷ d ∷ e ∷ f ∷ g ∷ h ∷ i ∷ [])
     (λ _ _ _ _ _ _ _ _ _. refl)
 
 -- the first eight, one by one

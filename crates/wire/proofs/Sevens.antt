@@ -9,4 +9,4 @@ use Rattle.wire.specs.Frame.{putSeven}
 
 pub seven-length : (s : List ℕ) (at b c d : ℕ) (v : ℤ) → length (putSeven s at b c d v) ≡ length s
 unfolding putSeven
-seven-length s at b c d v = put-length (set (set (set s at b) (at + 1) c) (at + 2) d) (at + 3) v ∙ simp length-set
+seven-length s at b c d v = simp length-set (put-length s (at + 3) v)

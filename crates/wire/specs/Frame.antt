@@ -20,7 +20,7 @@ seven b c d v = b ∷ c ∷ d ∷ v .b3 ∷ v .b2 ∷ v .b1 ∷ v .b0 ∷ []
 
 -- the seven bytes written at a place
 unfoldable pub putSeven : List ℕ → ℕ → ℕ → ℕ → ℕ → ℤ → List ℕ
-putSeven s at b c d v = putWord (set (set (set s at b) (at + 1) c) (at + 2) d) (at + 3) v
+putSeven s at b c d v = set (set (set (putWord s (at + 3) v) at b) (at + 1) c) (at + 2) d
 
 abbrev pub summed : List ℕ → List ℕ
 summed xs = xs ++ (checksum xs ∷ [])

@@ -16,15 +16,12 @@ use Rattle.wire.proofs.Sevens.{seven-length}
 use Rattle.wire.proofs.frame.put_frame.Statement.{statement}
 use Rattle.wire.proofs.frame.put_frame.Tie as tie
 
--- an address, seven bytes and their sum, written over nine bytes
-made : (l m : List ℕ) (a b c d n : ℕ) (v : ℤ) (f : Four) → length l ≡ 9 → m ≡ putSeven (set l 0 a) 1 b c d v → f ≡ fourOf v → n ≡ checksum (a ∷ seven b c d f) → set m 8 n ≡ frame a b c d v
+-- seven bytes, an address and their sum, written over nine bytes
+made : (l m : List ℕ) (a b c d n : ℕ) (v : ℤ) (f : Four) → length l ≡ 9 → m ≡ putSeven l 1 b c d v → f ≡ fourOf v → n ≡ checksum (a ∷ seven b c d f) → set (set m 0 a) 8 n ≡ frame a b c d v
 unfolding putSeven putWord frame
 made l m a b c d n v f h p q r =
     let g = fourOf v in
     rw (p, r, q) (stored a b c d (g .b3) (g .b2) (g .b1) (g .b0) (checksum (a ∷ seven b c d g)) l h)
-
-kept : (l m : List ℕ) (a b c d : ℕ) (v : ℤ) → m ≡ putSeven (set l 0 a) 1 b c d v → length m ≡ length l
-kept l m a b c d v e = ap length e ∙ seven-length (set l 0 a) 1 b c d v ∙ length-set l 0 a
 
 returns : tie.Need-returns
 returns c =
@@ -33,28 +30,21 @@ returns c =
 
 slice-write-out-2 : tie.Need-slice-write-out-2
 slice-write-out-2 c =
-    let p = c .before .before in
-    let x = p .before .before .before .before .before .before .args in
-    let e = kept (x .out .now) _ (x .address) (x .b) (x .c) (x .d) (x .value .v) (p .put-seven .ensures) in
-    omega arith
-
-same-length : tie.Need-same-length
-same-length c =
-    let p = c .before .before in
-    let x = p .before .before .before .before .before .before .args in
-    simp length-set (kept (x .out .now) _ (x .address) (x .b) (x .c) (x .d) (x .value .v) (p .put-seven .ensures))
+    let p = c .before .before .before .before in
+    let x = p .before .before .before .before .args in
+    let e = ap length (p .put-seven .ensures) ∙ seven-length (x .out .now) 1 (x .b) (x .c) (x .d) (x .value .v) in
+    simp length-set (omega arith)
 
 returns-2 : tie.Need-returns-2
 returns-2 c =
-    let p = c .before .before in
-    let s = p .before .before in
-    let i = s .before .before in
+    let p = c .before .before .before .before in
+    let i = p .before .before in
     let x = i .before .before .args in
     let h = i .if1 .left in
     let e = eq-eqb (length (x .out .now)) 9 h in
     record {
       status = simp e;
-      left = simp e (made (x .out .now) _ (x .address) (x .b) (x .c) (x .d) _ (x .value .v) _ h (p .put-seven .ensures) (s .before .four-of .ensures) (s .sum-of .ensures));
+      left = simp e (made (x .out .now) _ (x .address) (x .b) (x .c) (x .d) _ (x .value .v) _ h (p .put-seven .ensures) (c .before .four-of .ensures) (c .sum-of .ensures));
     }
 
 pub put-frame-spec : {M : Type 1} → statement M
@@ -63,9 +53,9 @@ put-frame-spec =
     (tie.spec
     returns
     (λ c κs. search needs)
-    (λ c κs. search needs)
     (λ c. search needs)
-    (λ c κs. simp length-set (omega arith))
+    (λ c κs. search needs)
+    (λ c κs. search needs)
     slice-write-out-2
-    same-length
+    (λ c. search needs)
     returns-2)

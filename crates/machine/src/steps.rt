@@ -1,7 +1,9 @@
 // Steps: a record is read in the arm of its number, decided, and done. `step` is called from one place, so
 // that the compiler makes one loop of all this, and keeps accumulator and address in machine registers.
 ghost use Prim.Native.Nat.{_+_, _*_, _≤_};
+ghost use mathlib.Core.Bool.{_&&_};
 ghost use mathlib.Core.Path.{_≡_};
+ghost use lib.Dec.{leb, ltb};
 ghost use lib.ListN.{length, getD};
 ghost use Rattle.wire.specs.Frame.{commandAt};
 ghost use Rattle.registers.specs.Registers.{nextAddress};
@@ -22,6 +24,18 @@ use status::Status;
 use wire::command_in;
 use words::Word;
 
+// Whether a number is that of CSUB or RSUB.
+fn is_subroutine(number: u8) -> bool
+    ensures { λ r. ⌜ r ≡ (leb 23 number && ltb number 25) ⌝ }
+{
+    if number < 23 {
+        return false;
+    }
+    number < 25
+}
+
+// CSUB and RSUB are told apart by tests behind the match: calls nest and returns follow one another, and in
+// a row of equal steps a processor foresees a test from further back than the target of a jump.
 fn decide(
     number: u8,
     seven: &[u8],
@@ -53,15 +67,21 @@ fn decide(
         20 => cmd_numbers::comp(command_in(seven), accumulator),
         21 => cmd_flow::jc(command_in(seven), accumulator, next, image),
         22 => cmd_flow::ja(command_in(seven)),
-        23 => cmd_flow::csub(command_in(seven), image),
-        24 => cmd_flow::rsub(image),
         27 => cmd_flow::wait(command_in(seven), accumulator, image),
         28 => Deed::Halt,
         33 => cmd_numbers::calcx(command_in(seven), accumulator, image),
         34 => cmd_axis::aap(command_in(seven), accumulator),
         35 => cmd_globals::agp(command_in(seven), accumulator, image),
         36 => cmd_numbers::clear(command_in(seven)),
-        _ => Deed::Nothing,
+        _ => {
+            if is_subroutine(number) {
+                if number == 23 {
+                    return cmd_flow::csub(command_in(seven), image);
+                }
+                return cmd_flow::rsub(image);
+            }
+            Deed::Nothing
+        }
     }
 }
 

@@ -1,7 +1,12 @@
 -- `machine::steps::decide` meets its contract. Assumes nothing.
+use Prim.Native.Nat.{ℕ}
+use mathlib.Core.Bool.{true, false, true≢false, _&&_}
 use mathlib.Core.Path.{_≡_, refl, sym, ap, _∙_}
+use native.Mathlib.Omega.{arith}
+use lib.Dec.{leb, ltb}
 use lib.ListN.{getD}
-use borrow.Author.Tests.{ne-eqb}
+use borrow.Author.Tests.{ne-eqb, leb-true, ltb-true}
+use Rattle.words.proofs.Bools.{each}
 use Rattle.wire.specs.Frame.{commandAt}
 use Rattle.wire.specs.declared.Command.{Command}
 use Rattle.judge.specs.Judge.{judged, isFlow}
@@ -13,23 +18,35 @@ use borrow.Author.Needs.{needs}
 use Rattle.machine.proofs.steps.decide.Statement.{statement}
 use Rattle.machine.proofs.steps.decide.Tie as tie
 
+-- of the two numbers, the one that is not the first; and none of the two
+above : (n : ℕ) → leb 23 n && ltb n 25 ≡ true → (n ≡ 23 → ⊥) → n ≡ 24
+above n e f =
+    let p = each (leb 23 n) (ltb n 25) e in
+    let low = leb-true 23 n (p .0) in
+    let high = ltb-true n 25 (p .1) in
+    omega arith
+
+beside : (n k : ℕ) → leb 23 n && ltb n 25 ≡ false → n ≡ k → leb 23 k && ltb k 25 ≡ true → ⊥
+beside n k e q t = true≢false (sym t ∙ ap (λ (m : ℕ). leb 23 m && ltb m 25) (sym q) ∙ e)
+
 returns : tie.Need-returns
 returns c =
     let d = c .before in
     let i = d .before in
-    let x = i .before .before .before in
+    let x = i .before .before .before .before .before .before in
     let r = seen (x .args .accumulator) (x .args .address) (registersOf (x .args .image .now)) in
-    c .right .ensures (x .args .accumulator) (x .args .address) (x .args .store .now)
-    ∙ ap (λ (e : Command). turned e r (x .args .store .now)) (told 1 (d .command-in .result) (commandAt (x .args .seven .now) 0) (d .command-in .ensures) (sym (x .pre .0) ∙ i .match .keys1))
+    c .csub .ensures (x .args .accumulator) (x .args .address) (x .args .store .now)
+    ∙ ap (λ (e : Command). turned e r (x .args .store .now)) (told 23 (d .command-in24 .result) (commandAt (x .args .seven .now) 0) (d .command-in24 .ensures) (sym (x .pre .0) ∙ i .if2 .taken))
 
 returns-2 : tie.Need-returns-2
 returns-2 c =
-    let d = c .before in
-    let i = d .before in
-    let x = i .before .before .before in
+    let i = c .before in
+    let s = i .before .before in
+    let x = s .before .before .before .before in
     let r = seen (x .args .accumulator) (x .args .address) (registersOf (x .args .image .now)) in
-    c .left .ensures (x .args .accumulator) (x .args .address) (x .args .store .now)
-    ∙ ap (λ (e : Command). turned e r (x .args .store .now)) (told 2 (d .command-in2 .result) (commandAt (x .args .seven .now) 0) (d .command-in2 .ensures) (sym (x .pre .0) ∙ i .match .keys2))
+    let e : x .args .number ≡ 24 = above (x .args .number) (sym (s .is-subroutine .ensures) ∙ i .before .if1 .taken) (i .if2 .left) in
+    c .rsub .ensures (commandAt (x .args .seven .now) 0) (x .args .accumulator) (x .args .address) (x .args .store .now)
+    ∙ ap (λ (e : Command). turned e r (x .args .store .now)) (told 24 (commandAt (x .args .seven .now) 0) (commandAt (x .args .seven .now) 0) refl (sym (x .pre .0) ∙ e))
 
 returns-3 : tie.Need-returns-3
 returns-3 c =
@@ -37,8 +54,8 @@ returns-3 c =
     let i = d .before in
     let x = i .before .before .before in
     let r = seen (x .args .accumulator) (x .args .address) (registersOf (x .args .image .now)) in
-    c .stop .ensures (registersOf (x .args .image .now)) (x .args .accumulator) (x .args .address) (x .args .store .now)
-    ∙ ap (λ (e : Command). turned e r (x .args .store .now)) (told 3 (d .command-in3 .result) (commandAt (x .args .seven .now) 0) (d .command-in3 .ensures) (sym (x .pre .0) ∙ i .match .keys3))
+    c .right .ensures (x .args .accumulator) (x .args .address) (x .args .store .now)
+    ∙ ap (λ (e : Command). turned e r (x .args .store .now)) (told 1 (d .command-in .result) (commandAt (x .args .seven .now) 0) (d .command-in .ensures) (sym (x .pre .0) ∙ i .match .keys1))
 
 returns-4 : tie.Need-returns-4
 returns-4 c =
@@ -46,8 +63,8 @@ returns-4 c =
     let i = d .before in
     let x = i .before .before .before in
     let r = seen (x .args .accumulator) (x .args .address) (registersOf (x .args .image .now)) in
-    c .mvp .ensures (x .args .accumulator) (x .args .address) (x .args .store .now)
-    ∙ ap (λ (e : Command). turned e r (x .args .store .now)) (told 4 (d .command-in4 .result) (commandAt (x .args .seven .now) 0) (d .command-in4 .ensures) (sym (x .pre .0) ∙ i .match .keys4))
+    c .left .ensures (x .args .accumulator) (x .args .address) (x .args .store .now)
+    ∙ ap (λ (e : Command). turned e r (x .args .store .now)) (told 2 (d .command-in2 .result) (commandAt (x .args .seven .now) 0) (d .command-in2 .ensures) (sym (x .pre .0) ∙ i .match .keys2))
 
 returns-5 : tie.Need-returns-5
 returns-5 c =
@@ -55,8 +72,8 @@ returns-5 c =
     let i = d .before in
     let x = i .before .before .before in
     let r = seen (x .args .accumulator) (x .args .address) (registersOf (x .args .image .now)) in
-    c .sap .ensures (registersOf (x .args .image .now)) (x .args .accumulator) (x .args .address) (x .args .store .now)
-    ∙ ap (λ (e : Command). turned e r (x .args .store .now)) (told 5 (d .command-in5 .result) (commandAt (x .args .seven .now) 0) (d .command-in5 .ensures) (sym (x .pre .0) ∙ i .match .keys5))
+    c .stop .ensures (registersOf (x .args .image .now)) (x .args .accumulator) (x .args .address) (x .args .store .now)
+    ∙ ap (λ (e : Command). turned e r (x .args .store .now)) (told 3 (d .command-in3 .result) (commandAt (x .args .seven .now) 0) (d .command-in3 .ensures) (sym (x .pre .0) ∙ i .match .keys3))
 
 returns-6 : tie.Need-returns-6
 returns-6 c =
@@ -64,8 +81,8 @@ returns-6 c =
     let i = d .before in
     let x = i .before .before .before in
     let r = seen (x .args .accumulator) (x .args .address) (registersOf (x .args .image .now)) in
-    c .gap .ensures (x .args .accumulator) (x .args .address) (x .args .store .now)
-    ∙ ap (λ (e : Command). turned e r (x .args .store .now)) (told 6 (d .command-in6 .result) (commandAt (x .args .seven .now) 0) (d .command-in6 .ensures) (sym (x .pre .0) ∙ i .match .keys6))
+    c .mvp .ensures (x .args .accumulator) (x .args .address) (x .args .store .now)
+    ∙ ap (λ (e : Command). turned e r (x .args .store .now)) (told 4 (d .command-in4 .result) (commandAt (x .args .seven .now) 0) (d .command-in4 .ensures) (sym (x .pre .0) ∙ i .match .keys4))
 
 returns-7 : tie.Need-returns-7
 returns-7 c =
@@ -73,8 +90,8 @@ returns-7 c =
     let i = d .before in
     let x = i .before .before .before in
     let r = seen (x .args .accumulator) (x .args .address) (registersOf (x .args .image .now)) in
-    c .stap .ensures (x .args .accumulator) (x .args .address) (x .args .store .now)
-    ∙ ap (λ (e : Command). turned e r (x .args .store .now)) (told 7 (d .command-in7 .result) (commandAt (x .args .seven .now) 0) (d .command-in7 .ensures) (sym (x .pre .0) ∙ i .match .keys7))
+    c .sap .ensures (registersOf (x .args .image .now)) (x .args .accumulator) (x .args .address) (x .args .store .now)
+    ∙ ap (λ (e : Command). turned e r (x .args .store .now)) (told 5 (d .command-in5 .result) (commandAt (x .args .seven .now) 0) (d .command-in5 .ensures) (sym (x .pre .0) ∙ i .match .keys5))
 
 returns-8 : tie.Need-returns-8
 returns-8 c =
@@ -82,8 +99,8 @@ returns-8 c =
     let i = d .before in
     let x = i .before .before .before in
     let r = seen (x .args .accumulator) (x .args .address) (registersOf (x .args .image .now)) in
-    c .rsap .ensures (registersOf (x .args .image .now)) (x .args .accumulator) (x .args .address)
-    ∙ ap (λ (e : Command). turned e r (x .args .store .now)) (told 8 (d .command-in8 .result) (commandAt (x .args .seven .now) 0) (d .command-in8 .ensures) (sym (x .pre .0) ∙ i .match .keys8))
+    c .gap .ensures (x .args .accumulator) (x .args .address) (x .args .store .now)
+    ∙ ap (λ (e : Command). turned e r (x .args .store .now)) (told 6 (d .command-in6 .result) (commandAt (x .args .seven .now) 0) (d .command-in6 .ensures) (sym (x .pre .0) ∙ i .match .keys6))
 
 returns-9 : tie.Need-returns-9
 returns-9 c =
@@ -91,8 +108,8 @@ returns-9 c =
     let i = d .before in
     let x = i .before .before .before in
     let r = seen (x .args .accumulator) (x .args .address) (registersOf (x .args .image .now)) in
-    c .sgp .ensures (x .args .accumulator) (x .args .address) (x .args .store .now)
-    ∙ ap (λ (e : Command). turned e r (x .args .store .now)) (told 9 (d .command-in9 .result) (commandAt (x .args .seven .now) 0) (d .command-in9 .ensures) (sym (x .pre .0) ∙ i .match .keys9))
+    c .stap .ensures (x .args .accumulator) (x .args .address) (x .args .store .now)
+    ∙ ap (λ (e : Command). turned e r (x .args .store .now)) (told 7 (d .command-in7 .result) (commandAt (x .args .seven .now) 0) (d .command-in7 .ensures) (sym (x .pre .0) ∙ i .match .keys7))
 
 returns-10 : tie.Need-returns-10
 returns-10 c =
@@ -100,8 +117,8 @@ returns-10 c =
     let i = d .before in
     let x = i .before .before .before in
     let r = seen (x .args .accumulator) (x .args .address) (registersOf (x .args .image .now)) in
-    c .ggp .ensures (x .args .accumulator) (x .args .store .now)
-    ∙ ap (λ (e : Command). turned e r (x .args .store .now)) (told 10 (d .command-in10 .result) (commandAt (x .args .seven .now) 0) (d .command-in10 .ensures) (sym (x .pre .0) ∙ i .match .keys10))
+    c .rsap .ensures (registersOf (x .args .image .now)) (x .args .accumulator) (x .args .address)
+    ∙ ap (λ (e : Command). turned e r (x .args .store .now)) (told 8 (d .command-in8 .result) (commandAt (x .args .seven .now) 0) (d .command-in8 .ensures) (sym (x .pre .0) ∙ i .match .keys8))
 
 returns-11 : tie.Need-returns-11
 returns-11 c =
@@ -109,8 +126,8 @@ returns-11 c =
     let i = d .before in
     let x = i .before .before .before in
     let r = seen (x .args .accumulator) (x .args .address) (registersOf (x .args .image .now)) in
-    c .stgp .ensures (x .args .accumulator) (x .args .address) (x .args .store .now)
-    ∙ ap (λ (e : Command). turned e r (x .args .store .now)) (told 11 (d .command-in11 .result) (commandAt (x .args .seven .now) 0) (d .command-in11 .ensures) (sym (x .pre .0) ∙ i .match .keys11))
+    c .sgp .ensures (x .args .accumulator) (x .args .address) (x .args .store .now)
+    ∙ ap (λ (e : Command). turned e r (x .args .store .now)) (told 9 (d .command-in9 .result) (commandAt (x .args .seven .now) 0) (d .command-in9 .ensures) (sym (x .pre .0) ∙ i .match .keys9))
 
 returns-12 : tie.Need-returns-12
 returns-12 c =
@@ -118,8 +135,8 @@ returns-12 c =
     let i = d .before in
     let x = i .before .before .before in
     let r = seen (x .args .accumulator) (x .args .address) (registersOf (x .args .image .now)) in
-    c .rsgp .ensures (registersOf (x .args .image .now)) (x .args .accumulator) (x .args .address)
-    ∙ ap (λ (e : Command). turned e r (x .args .store .now)) (told 12 (d .command-in12 .result) (commandAt (x .args .seven .now) 0) (d .command-in12 .ensures) (sym (x .pre .0) ∙ i .match .keys12))
+    c .ggp .ensures (x .args .accumulator) (x .args .store .now)
+    ∙ ap (λ (e : Command). turned e r (x .args .store .now)) (told 10 (d .command-in10 .result) (commandAt (x .args .seven .now) 0) (d .command-in10 .ensures) (sym (x .pre .0) ∙ i .match .keys10))
 
 returns-13 : tie.Need-returns-13
 returns-13 c =
@@ -127,8 +144,8 @@ returns-13 c =
     let i = d .before in
     let x = i .before .before .before in
     let r = seen (x .args .accumulator) (x .args .address) (registersOf (x .args .image .now)) in
-    c .sio .ensures (registersOf (x .args .image .now)) (x .args .accumulator) (x .args .address) (x .args .store .now)
-    ∙ ap (λ (e : Command). turned e r (x .args .store .now)) (told 14 (d .command-in13 .result) (commandAt (x .args .seven .now) 0) (d .command-in13 .ensures) (sym (x .pre .0) ∙ i .match .keys13))
+    c .stgp .ensures (x .args .accumulator) (x .args .address) (x .args .store .now)
+    ∙ ap (λ (e : Command). turned e r (x .args .store .now)) (told 11 (d .command-in11 .result) (commandAt (x .args .seven .now) 0) (d .command-in11 .ensures) (sym (x .pre .0) ∙ i .match .keys11))
 
 returns-14 : tie.Need-returns-14
 returns-14 c =
@@ -136,8 +153,8 @@ returns-14 c =
     let i = d .before in
     let x = i .before .before .before in
     let r = seen (x .args .accumulator) (x .args .address) (registersOf (x .args .image .now)) in
-    c .gio .ensures (x .args .accumulator) (x .args .address) (x .args .store .now)
-    ∙ ap (λ (e : Command). turned e r (x .args .store .now)) (told 15 (d .command-in14 .result) (commandAt (x .args .seven .now) 0) (d .command-in14 .ensures) (sym (x .pre .0) ∙ i .match .keys14))
+    c .rsgp .ensures (registersOf (x .args .image .now)) (x .args .accumulator) (x .args .address)
+    ∙ ap (λ (e : Command). turned e r (x .args .store .now)) (told 12 (d .command-in12 .result) (commandAt (x .args .seven .now) 0) (d .command-in12 .ensures) (sym (x .pre .0) ∙ i .match .keys12))
 
 returns-15 : tie.Need-returns-15
 returns-15 c =
@@ -145,8 +162,8 @@ returns-15 c =
     let i = d .before in
     let x = i .before .before .before in
     let r = seen (x .args .accumulator) (x .args .address) (registersOf (x .args .image .now)) in
-    c .calc .ensures (registersOf (x .args .image .now)) (x .args .address) (x .args .store .now)
-    ∙ ap (λ (e : Command). turned e r (x .args .store .now)) (told 19 (d .command-in15 .result) (commandAt (x .args .seven .now) 0) (d .command-in15 .ensures) (sym (x .pre .0) ∙ i .match .keys15))
+    c .sio .ensures (registersOf (x .args .image .now)) (x .args .accumulator) (x .args .address) (x .args .store .now)
+    ∙ ap (λ (e : Command). turned e r (x .args .store .now)) (told 14 (d .command-in13 .result) (commandAt (x .args .seven .now) 0) (d .command-in13 .ensures) (sym (x .pre .0) ∙ i .match .keys13))
 
 returns-16 : tie.Need-returns-16
 returns-16 c =
@@ -154,8 +171,8 @@ returns-16 c =
     let i = d .before in
     let x = i .before .before .before in
     let r = seen (x .args .accumulator) (x .args .address) (registersOf (x .args .image .now)) in
-    c .comp .ensures (registersOf (x .args .image .now)) (x .args .address) (x .args .store .now)
-    ∙ ap (λ (e : Command). turned e r (x .args .store .now)) (told 20 (d .command-in16 .result) (commandAt (x .args .seven .now) 0) (d .command-in16 .ensures) (sym (x .pre .0) ∙ i .match .keys16))
+    c .gio .ensures (x .args .accumulator) (x .args .address) (x .args .store .now)
+    ∙ ap (λ (e : Command). turned e r (x .args .store .now)) (told 15 (d .command-in14 .result) (commandAt (x .args .seven .now) 0) (d .command-in14 .ensures) (sym (x .pre .0) ∙ i .match .keys14))
 
 returns-17 : tie.Need-returns-17
 returns-17 c =
@@ -163,8 +180,8 @@ returns-17 c =
     let i = d .before in
     let x = i .before .before .before in
     let r = seen (x .args .accumulator) (x .args .address) (registersOf (x .args .image .now)) in
-    c .jc .ensures (x .args .address) (x .pre .1) (x .args .store .now)
-    ∙ ap (λ (e : Command). turned e r (x .args .store .now)) (told 21 (d .command-in17 .result) (commandAt (x .args .seven .now) 0) (d .command-in17 .ensures) (sym (x .pre .0) ∙ i .match .keys17))
+    c .calc .ensures (registersOf (x .args .image .now)) (x .args .address) (x .args .store .now)
+    ∙ ap (λ (e : Command). turned e r (x .args .store .now)) (told 19 (d .command-in15 .result) (commandAt (x .args .seven .now) 0) (d .command-in15 .ensures) (sym (x .pre .0) ∙ i .match .keys15))
 
 returns-18 : tie.Need-returns-18
 returns-18 c =
@@ -172,8 +189,8 @@ returns-18 c =
     let i = d .before in
     let x = i .before .before .before in
     let r = seen (x .args .accumulator) (x .args .address) (registersOf (x .args .image .now)) in
-    c .ja .ensures (registersOf (x .args .image .now)) (x .args .accumulator) (x .args .address) (x .args .store .now)
-    ∙ ap (λ (e : Command). turned e r (x .args .store .now)) (told 22 (d .command-in18 .result) (commandAt (x .args .seven .now) 0) (d .command-in18 .ensures) (sym (x .pre .0) ∙ i .match .keys18))
+    c .comp .ensures (registersOf (x .args .image .now)) (x .args .address) (x .args .store .now)
+    ∙ ap (λ (e : Command). turned e r (x .args .store .now)) (told 20 (d .command-in16 .result) (commandAt (x .args .seven .now) 0) (d .command-in16 .ensures) (sym (x .pre .0) ∙ i .match .keys16))
 
 returns-19 : tie.Need-returns-19
 returns-19 c =
@@ -181,16 +198,17 @@ returns-19 c =
     let i = d .before in
     let x = i .before .before .before in
     let r = seen (x .args .accumulator) (x .args .address) (registersOf (x .args .image .now)) in
-    c .csub .ensures (x .args .accumulator) (x .args .address) (x .args .store .now)
-    ∙ ap (λ (e : Command). turned e r (x .args .store .now)) (told 23 (d .command-in19 .result) (commandAt (x .args .seven .now) 0) (d .command-in19 .ensures) (sym (x .pre .0) ∙ i .match .keys19))
+    c .jc .ensures (x .args .address) (x .pre .1) (x .args .store .now)
+    ∙ ap (λ (e : Command). turned e r (x .args .store .now)) (told 21 (d .command-in17 .result) (commandAt (x .args .seven .now) 0) (d .command-in17 .ensures) (sym (x .pre .0) ∙ i .match .keys17))
 
 returns-20 : tie.Need-returns-20
 returns-20 c =
-    let i = c .before in
+    let d = c .before in
+    let i = d .before in
     let x = i .before .before .before in
     let r = seen (x .args .accumulator) (x .args .address) (registersOf (x .args .image .now)) in
-    c .rsub .ensures (commandAt (x .args .seven .now) 0) (x .args .accumulator) (x .args .address) (x .args .store .now)
-    ∙ ap (λ (e : Command). turned e r (x .args .store .now)) (told 24 (commandAt (x .args .seven .now) 0) (commandAt (x .args .seven .now) 0) refl (sym (x .pre .0) ∙ i .match .keys20))
+    c .ja .ensures (registersOf (x .args .image .now)) (x .args .accumulator) (x .args .address) (x .args .store .now)
+    ∙ ap (λ (e : Command). turned e r (x .args .store .now)) (told 22 (d .command-in18 .result) (commandAt (x .args .seven .now) 0) (d .command-in18 .ensures) (sym (x .pre .0) ∙ i .match .keys18))
 
 returns-21 : tie.Need-returns-21
 returns-21 c =
@@ -199,13 +217,13 @@ returns-21 c =
     let x = i .before .before .before in
     let r = seen (x .args .accumulator) (x .args .address) (registersOf (x .args .image .now)) in
     c .wait .ensures (x .args .address) (x .args .store .now)
-    ∙ ap (λ (e : Command). turned e r (x .args .store .now)) (told 27 (d .command-in20 .result) (commandAt (x .args .seven .now) 0) (d .command-in20 .ensures) (sym (x .pre .0) ∙ i .match .keys21))
+    ∙ ap (λ (e : Command). turned e r (x .args .store .now)) (told 27 (d .command-in19 .result) (commandAt (x .args .seven .now) 0) (d .command-in19 .ensures) (sym (x .pre .0) ∙ i .match .keys19))
 
 returns-22 : tie.Need-returns-22
 unfolding judged turned through isFlow flowed doing
 returns-22 c =
     let x = c .before .before .before in
-    let e : getD (x .args .seven .now) 0 0 ≡ 28 = sym (x .pre .0) ∙ c .match .keys22 in
+    let e : getD (x .args .seven .now) 0 0 ≡ 28 = sym (x .pre .0) ∙ c .match .keys20 in
     simp e
 
 returns-23 : tie.Need-returns-23
@@ -215,7 +233,7 @@ returns-23 c =
     let x = i .before .before .before in
     let r = seen (x .args .accumulator) (x .args .address) (registersOf (x .args .image .now)) in
     c .calcx .ensures (x .args .address) (x .args .store .now)
-    ∙ ap (λ (e : Command). turned e r (x .args .store .now)) (told 33 (d .command-in21 .result) (commandAt (x .args .seven .now) 0) (d .command-in21 .ensures) (sym (x .pre .0) ∙ i .match .keys23))
+    ∙ ap (λ (e : Command). turned e r (x .args .store .now)) (told 33 (d .command-in20 .result) (commandAt (x .args .seven .now) 0) (d .command-in20 .ensures) (sym (x .pre .0) ∙ i .match .keys21))
 
 returns-24 : tie.Need-returns-24
 returns-24 c =
@@ -224,7 +242,7 @@ returns-24 c =
     let x = i .before .before .before in
     let r = seen (x .args .accumulator) (x .args .address) (registersOf (x .args .image .now)) in
     c .aap .ensures (registersOf (x .args .image .now)) (x .args .address) (x .args .store .now)
-    ∙ ap (λ (e : Command). turned e r (x .args .store .now)) (told 34 (d .command-in22 .result) (commandAt (x .args .seven .now) 0) (d .command-in22 .ensures) (sym (x .pre .0) ∙ i .match .keys24))
+    ∙ ap (λ (e : Command). turned e r (x .args .store .now)) (told 34 (d .command-in21 .result) (commandAt (x .args .seven .now) 0) (d .command-in21 .ensures) (sym (x .pre .0) ∙ i .match .keys22))
 
 returns-25 : tie.Need-returns-25
 returns-25 c =
@@ -233,7 +251,7 @@ returns-25 c =
     let x = i .before .before .before in
     let r = seen (x .args .accumulator) (x .args .address) (registersOf (x .args .image .now)) in
     c .agp .ensures (x .args .address) (x .args .store .now)
-    ∙ ap (λ (e : Command). turned e r (x .args .store .now)) (told 35 (d .command-in23 .result) (commandAt (x .args .seven .now) 0) (d .command-in23 .ensures) (sym (x .pre .0) ∙ i .match .keys25))
+    ∙ ap (λ (e : Command). turned e r (x .args .store .now)) (told 35 (d .command-in22 .result) (commandAt (x .args .seven .now) 0) (d .command-in22 .ensures) (sym (x .pre .0) ∙ i .match .keys23))
 
 returns-26 : tie.Need-returns-26
 returns-26 c =
@@ -242,16 +260,16 @@ returns-26 c =
     let x = i .before .before .before in
     let r = seen (x .args .accumulator) (x .args .address) (registersOf (x .args .image .now)) in
     c .clear .ensures (registersOf (x .args .image .now)) (x .args .accumulator) (x .args .address) (x .args .store .now)
-    ∙ ap (λ (e : Command). turned e r (x .args .store .now)) (told 36 (d .command-in24 .result) (commandAt (x .args .seven .now) 0) (d .command-in24 .ensures) (sym (x .pre .0) ∙ i .match .keys26))
+    ∙ ap (λ (e : Command). turned e r (x .args .store .now)) (told 36 (d .command-in23 .result) (commandAt (x .args .seven .now) 0) (d .command-in23 .ensures) (sym (x .pre .0) ∙ i .match .keys24))
 
 returns-27 : tie.Need-returns-27
 unfolding judged turned doing
 returns-27 c =
-    let t = c .match .rest in
+    let s = c .before in
+    let t = s .before .match .rest in
+    let x = s .before .before .before .before in
     simp (
-      ← c .before .before .before .pre .0,
-      ne-eqb _ _ (t .0 .0 .0 .0 .0 .0 .0 .0 .0 .0 .0 .0 .0 .0 .0 .0 .0 .0 .0 .0 .0 .0 .0 .0 .0 .1),
-      ne-eqb _ _ (t .0 .0 .0 .0 .0 .0 .0 .0 .0 .0 .0 .0 .0 .0 .0 .0 .0 .0 .0 .0 .0 .0 .0 .0 .1),
+      ← x .pre .0,
       ne-eqb _ _ (t .0 .0 .0 .0 .0 .0 .0 .0 .0 .0 .0 .0 .0 .0 .0 .0 .0 .0 .0 .0 .0 .0 .0 .1),
       ne-eqb _ _ (t .0 .0 .0 .0 .0 .0 .0 .0 .0 .0 .0 .0 .0 .0 .0 .0 .0 .0 .0 .0 .0 .0 .1),
       ne-eqb _ _ (t .0 .0 .0 .0 .0 .0 .0 .0 .0 .0 .0 .0 .0 .0 .0 .0 .0 .0 .0 .0 .0 .1),
@@ -270,6 +288,8 @@ returns-27 c =
       ne-eqb _ _ (t .0 .0 .0 .0 .0 .0 .0 .0 .1),
       ne-eqb _ _ (t .0 .0 .0 .0 .0 .0 .0 .1),
       ne-eqb _ _ (t .0 .0 .0 .0 .0 .0 .1),
+      ne-eqb _ _ (λ (q : x .args .number ≡ 23). beside (x .args .number) 23 (sym (s .is-subroutine .ensures) ∙ c .if1 .left) q refl),
+      ne-eqb _ _ (λ (q : x .args .number ≡ 24). beside (x .args .number) 24 (sym (s .is-subroutine .ensures) ∙ c .if1 .left) q refl),
       ne-eqb _ _ (t .0 .0 .0 .0 .0 .1),
       ne-eqb _ _ (t .0 .0 .0 .0 .1),
       ne-eqb _ _ (t .0 .0 .0 .1),
@@ -332,6 +352,7 @@ decide-spec =
     (λ c κs. search needs)
     (λ c κs. search needs)
     returns
+    (λ c κs. search needs)
     returns-2
     returns-3
     returns-4

@@ -158,19 +158,15 @@ pub fn read_reply(bytes: &[u8]) -> Reply {
     let status = unsafe {
         c::dhikmarul_read_reply(bytes.as_ptr(), bytes.len(), numbers.as_mut_ptr().cast())
     };
-    // One by one: a single load of all four would wait for the library's four stores. They are bytes of
-    // the reply, so no cast loses anything.
-    let byte = |at: usize| {
-        // SAFETY: a reference to a live number, written by the library.
-        unsafe { std::ptr::read_volatile(numbers[at].as_ptr()) as u8 }
-    };
+    // SAFETY: written by the library.
+    let numbers = numbers.map(|number| unsafe { number.assume_init() });
+    // The first four are bytes of the reply, so no cast loses anything.
     Reply {
         status: Status(status),
-        reply_address: byte(0),
-        module_address: byte(1),
-        command_status: Status(byte(2)),
-        command: byte(3),
-        // SAFETY: written by the library.
-        value: unsafe { numbers[4].assume_init() },
+        reply_address: numbers[0] as u8,
+        module_address: numbers[1] as u8,
+        command_status: Status(numbers[2] as u8),
+        command: numbers[3] as u8,
+        value: numbers[4],
     }
 }

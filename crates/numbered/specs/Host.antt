@@ -6,6 +6,7 @@ use lib.IntN.{ℤ}
 use lib.ListN.{length}
 use lib.Seq.{sets}
 use Rattle.words.specs.Word.{pick, word, ofBits}
+use Rattle.words.specs.declared.Word.{Word}
 use Rattle.wire.specs.Frame.{commandFrame}
 use Rattle.wire.specs.declared.Command.{Command}
 use Rattle.display.specs.Display.{Answer, readOf}
@@ -36,14 +37,12 @@ abbrev pub numbersLeft : ℕ → List ℤ → Numbers
 numbersLeft n l = record { numbers = l; status = n }
 
 -- reply address, module address, status, command, value
+abbrev pub fiveOf : ℕ → ℕ → ℕ → ℕ → Word → List ℤ
+fiveOf to from status command value =
+    ofBits to ∷ ofBits from ∷ ofBits status ∷ ofBits command ∷ value .v ∷ []
+
 abbrev pub numbersOf : Answer → List ℤ
-numbersOf a =
-    ofBits (a .reply-address)
-    ∷ ofBits (a .module-address)
-    ∷ ofBits (a .status)
-    ∷ ofBits (a .command)
-    ∷ a .value
-    ∷ []
+numbersOf a = fiveOf (a .reply-address) (a .module-address) (a .status) (a .command) (word (a .value))
 
 -- over the five places lent
 abbrev pub put : List ℤ → Answer → Numbers

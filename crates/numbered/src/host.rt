@@ -4,12 +4,12 @@ ghost use mathlib.Core.Path.{_≡_};
 ghost use lib.ListN.{set};
 ghost use lib.Seq.{sets};
 ghost use Rattle.words.specs.Word.{word, ofBits};
-ghost use Rattle.display.specs.Display.{done, refused};
+ghost use Rattle.display.specs.Display.{refused};
 ghost use Rattle.wire.specs.Frame.{writtenStatus};
 ghost use Rattle.numbered.specs.Host as spec;
-use display::Received;
+use checksum::is_right;
+use display::reply_in;
 use wire::Command;
-use wire::Reply;
 use wire::Written;
 use words::Word;
 
@@ -49,15 +49,16 @@ fn put(numbers: &mut [i32; 5], place: usize, w: Word)
     numbers[place] = v;
 }
 
-// The five numbers of a reply.
-fn put_reply(numbers: &mut [i32; 5], r: Reply)
-    ensures { λ _. ⌜ now (numbers .exit) ≡ sets (now (numbers .entry)) 0 (spec.numbersOf (done r)) ⌝ }
+// The five numbers of a reply to an address, from a module. Its fields come one by one: a struct that is
+// handed on is copied in pieces.
+fn put_reply(numbers: &mut [i32; 5], to: u8, from: u8, status: u8, command: u8, value: Word)
+    ensures { λ _. ⌜ now (numbers .exit) ≡ sets (now (numbers .entry)) 0 (spec.fiveOf to from status command value) ⌝ }
 {
-    put(numbers, 0, of_byte(r.reply_address));
-    put(numbers, 1, of_byte(r.module_address));
-    put(numbers, 2, of_byte(r.status));
-    put(numbers, 3, of_byte(r.command));
-    put(numbers, 4, r.value);
+    put(numbers, 0, of_byte(to));
+    put(numbers, 1, of_byte(from));
+    put(numbers, 2, of_byte(status));
+    put(numbers, 3, of_byte(command));
+    put(numbers, 4, value);
 }
 
 // No numbers.
@@ -72,23 +73,27 @@ fn clear(numbers: &mut [i32; 5])
 }
 
 // The reply in lent bytes of any length: its reply address, module address, status, command and value,
-// or 0 each where it is refused.
+// or 0 each where it is refused. The numbers are put before the sum is looked at, so that the compiler
+// takes the bytes together for each of the two.
 pub fn read_reply(bytes: &[u8], numbers: &mut [i32; 5]) -> u8
     ensures { λ r. ⌜ spec.numbersLeft r (now (numbers .exit)) ≡ spec.read (now (bytes .entry)) (now (numbers .entry)) ⌝ }
 {
-    let received = display::read_reply(bytes);
-    match received {
-        Received::Read(r) => {
-            put_reply(numbers, r);
-            100
-        }
-        Received::Length => {
-            clear(numbers);
-            20
-        }
-        Received::Checksum => {
-            clear(numbers);
-            1
-        }
+    if bytes.len() != 9 {
+        clear(numbers);
+        return 20;
     }
+    let r = reply_in(bytes);
+    put_reply(
+        numbers,
+        r.reply_address,
+        r.module_address,
+        r.status,
+        r.command,
+        r.value,
+    );
+    if is_right(bytes) {
+        return 100;
+    }
+    clear(numbers);
+    1
 }

@@ -1,10 +1,8 @@
 -- `display::read_reply` meets its contract: each return by the tests that led to it. Assumes nothing.
 use mathlib.Core.Path.{sym, _∙_}
-use native.Mathlib.Omega.{arith}
 use borrow.Author.Needs.{needs}
 use borrow.Author.Tests.{eq-eqb, ne-eqb}
 use lib.ListN.{length}
-use Rattle.words.proofs.Parts.{word-part}
 use Rattle.display.specs.Display.{readOf}
 use Rattle.display.proofs.read_reply.Statement.{statement}
 use Rattle.display.proofs.read_reply.Tie as tie
@@ -16,14 +14,12 @@ returns c = simp (ne-eqb (length (c .before .before .args .s .now)) 9 (c .if1 .t
 returns-2 : tie.Need-returns-2
 unfolding readOf
 returns-2 c =
-    let w = c .before .before .before .before in
-    let i = w .before .before .before .before in
-    let s = i .before .before .args .s .now in
+    let w = c .before in
+    let i = w .before .before in
     simp (
-      w .word-in .ensures,
-      word-part s 4 4 (omega arith),
-      sym (w .before .before .before .is-right .ensures) ∙ w .before .before .if2 .taken,
-      eq-eqb (length s) 9 (i .if1 .left),
+      c .reply-in .ensures,
+      sym (w .before .is-right .ensures) ∙ w .if2 .taken,
+      eq-eqb (length (i .before .before .args .s .now)) 9 (i .if1 .left),
     )
 
 returns-3 : tie.Need-returns-3
@@ -41,13 +37,6 @@ read-reply-spec =
     (tie.spec
     returns
     (λ c κs. search needs)
-    (λ c. search needs)
-    (λ c. search needs)
-    (λ c. search needs)
     (λ c κs. search needs)
-    (λ c. search needs)
-    (λ c. search needs)
-    (λ c. search needs)
-    (λ c. search needs)
     returns-2
     returns-3)

@@ -1,3 +1,4 @@
+-- `numbered::host::put_reply` meets its contract. Assumes nothing.
 use borrow.Author.Needs.{needs}
 use Rattle.numbered.proofs.host.put_reply.Statement.{statement}
 use Rattle.numbered.proofs.host.put_reply.Tie as tie

@@ -47,11 +47,16 @@ pub fn sgp(c: Command) -> Status
     by_bytes(is_bank(bank), takes(bank, kind), value)
 }
 
+// The bank of user variables is told first, here and in `agp`: so the compiler takes the fields one by one.
 pub fn ggp(c: Command) -> Status
     ensures { λ r. ⌜ r ≡ spec.ggp c ⌝ }
 {
     let bank = c.motor;
-    by_bytes(is_bank(bank), has(bank, c.kind), true)
+    let kind = c.kind;
+    if bank == 2 {
+        return by_bytes(true, has(2, kind), true);
+    }
+    by_bytes(is_bank(bank), has(bank, kind), true)
 }
 
 // STGP and RSGP.
@@ -65,5 +70,9 @@ pub fn agp(c: Command) -> Status
     ensures { λ r. ⌜ r ≡ spec.agp c ⌝ }
 {
     let bank = c.motor;
-    by_bytes(is_bank(bank), takes(bank, c.kind), true)
+    let kind = c.kind;
+    if bank == 2 {
+        return by_bytes(true, takes(2, kind), true);
+    }
+    by_bytes(is_bank(bank), takes(bank, kind), true)
 }

@@ -39,10 +39,6 @@ pub global-low : (n : ℕ) → bankPlace 0 n < 256
 global-low n = omega (arith, global-place n, place-low (globals ++ readOnly) n, global-rows)
 
 -- ---- what the judge lets through has a place
-pub takes-user : (bank n : ℕ) → bank ≡ 2 → takes bank n ≡ true → n < 56
-unfolding takes
-takes-user bank n e h = ltb-true n 56 (rw (eq-eqb bank 2 e) at h)
-
 pub takes-global : (bank n : ℕ) → (bank ≡ 2 → ⊥) → takes bank n ≡ true → globalIn n < 4
 unfolding takes
 takes-global bank n e h = ltb-true (globalIn n) 4 (rw (ne-eqb bank 2 e) at h)

@@ -22,14 +22,7 @@ use words::Word;
 // The place of global 73.
 const LOCK: usize = 44;
 
-// The place and the cell of a user variable.
-fn user_place(number: u8) -> u8
-    requires { ⌜ number < 56 ⌝ }
-    ensures { λ r. ⌜ r ≡ 47 + number ⌝ }
-{
-    47 + number
-}
-
+// The cell of a user variable.
 fn user_cell(number: u8) -> u8
     requires { ⌜ number < 56 ⌝ }
     ensures { λ r. ⌜ r ≡ 35 + number ⌝ }
@@ -84,7 +77,7 @@ pub fn sgp(c: Command, image: &[u32; REGISTERS]) -> Deed
     }
     let value = c.value;
     if c.motor == 2 {
-        return Deed::Set(user_place(c.kind), value);
+        return Deed::User(c.kind, value);
     }
     set_global(c.kind, value, image)
 }
@@ -98,7 +91,7 @@ pub fn agp(c: Command, accumulator: Word, image: &[u32; REGISTERS]) -> Deed
         return Deed::Refused(judged);
     }
     if c.motor == 2 {
-        return Deed::Set(user_place(c.kind), accumulator);
+        return Deed::User(c.kind, accumulator);
     }
     if !settings::settable(settings::bank_place(0, c.kind), accumulator) {
         return Deed::Refused(Status::Value);
@@ -157,7 +150,7 @@ pub fn rsgp(c: Command, store: &[u8]) -> Deed
         return Deed::Refused(judged);
     }
     let value = store::cell_at(store, 35 + wide(c.kind));
-    Deed::Set(user_place(c.kind), value)
+    Deed::User(c.kind, value)
 }
 
 // SIO.

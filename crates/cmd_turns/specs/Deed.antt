@@ -1,5 +1,5 @@
 -- What each deed does.
-use Prim.Native.Nat.{ℕ}
+use Prim.Native.Nat.{ℕ, _+_}
 use mathlib.Core.List.{List}
 use lib.IntN.{pos}
 use Rattle.words.specs.Word.{word}
@@ -42,6 +42,7 @@ use Rattle.cmd_turns.specs.declared.Deed.the-variants.{
   Dropped,
   Halt,
   Nothing,
+  User,
 }
 use Rattle.cmd_turns.specs.Turn.{Turn, turn, to, on, dropped, withStack, halted}
 
@@ -79,6 +80,7 @@ doing TimedOut r m = on Done (dropped (inCore (withEto 1) r)) m
 doing (Dropped s) r m = on s (dropped r) m
 doing Halt r m = halted r m
 doing Nothing r m = turn r m Unknown Stops
+doing (User n w) r m = on Done (setValueAt (47 + n) (w .v) r) m
 
 -- ---- what a deed is decided from: the image's registers with the accumulator and the address that a run carries
 abbrev pub seen : Word → ℕ → Registers → Registers

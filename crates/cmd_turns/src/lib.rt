@@ -46,6 +46,8 @@ pub enum Deed {
     Halt,
     // The command is unknown.
     Nothing,
+    // A user variable by its number.
+    User(u8, Word),
 }
 
 // What a command of direct mode, or a control command, answers.

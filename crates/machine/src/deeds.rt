@@ -21,6 +21,9 @@ use status::Status;
 use waits::Wait;
 use words::Word;
 
+// The place of user variable 0.
+const USER_VARIABLES: usize = 47;
+
 // Made anew, field by field: a struct that is copied and changed in a part is copied in pieces.
 fn goes(accumulator: Word, address: u32, status: Status) -> Stepped
     ensures { λ r. ⌜ r ≡ spec.goes accumulator address status ⌝ }
@@ -224,5 +227,9 @@ pub(crate) fn apply(
             stops(accumulator, 0, Status::Done)
         }
         Deed::Nothing => stops(accumulator, address, Status::Unknown),
+        Deed::User(number, w) => {
+            reg_image::set_value(image, USER_VARIABLES + number as usize, w);
+            goes(accumulator, next, Status::Done)
+        }
     }
 }

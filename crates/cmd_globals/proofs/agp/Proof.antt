@@ -14,11 +14,10 @@ use Rattle.rules.specs.Assigning.{take}
 use Rattle.rules.specs.Deciding.{decidedBy}
 use Rattle.reg_image.specs.Image.{registersOf}
 use Rattle.cmd_turns.specs.declared.Deed.{Deed}
-use Rattle.cmd_turns.specs.declared.Deed.the-variants.{Set}
 use Rattle.cmd_turns.specs.Deed.{doing, seen}
 use Rattle.cmd_axis.proofs.Carries.{carries, refused, passed, right-type, taken, not-taken}
 use Rattle.settings.proofs.Users.{user-place, other-bank, user-settable}
-use Rattle.cmd_globals.proofs.Users.{takes-user, takes-global, user-assigned, sets-global}
+use Rattle.cmd_globals.proofs.Users.{takes-global, user-assigned, sets-global}
 use borrow.Author.Needs.{needs}
 use Rattle.cmd_globals.proofs.agp.Statement.{statement}
 use Rattle.cmd_globals.proofs.agp.Tie as tie
@@ -31,19 +30,10 @@ returns c n m =
     refused 35 (x .c) (seen (x .accumulator) n (registersOf (x .image .now))) m (fields.isBank b) (fields.takes b (x .c .kind)) true
     (c .before .before .agp .ensures) refl (c .before .is-done .ensures) (c .if1 .taken) refl
 
-user-place-requires : tie.Need-user-place-requires
-user-place-requires c κs =
-    let i = c .before .before in
-    let d = i .before in
-    let x = d .before .before .args .c in
-    takes-user (x .motor) (x .kind) (c .if2 .taken)
-    (right-type (fields.isBank (x .motor)) (fields.takes (x .motor) (x .kind)) true
-    (ap isDone (sym (d .before .agp .ensures)) ∙ passed (d .is-done .ensures) (i .if1 .left)))
-
 returns-2 : tie.Need-returns-2
 unfolding judged doing isFlow isReading decidedBy
 returns-2 c n m =
-    let i = c .before .before .before in
+    let i = c .before .before in
     let d = i .before in
     let g = d .before .agp in
     let x = d .before .before .args in
@@ -51,9 +41,8 @@ returns-2 c n m =
     let w = x .accumulator in
     let r = seen w n (registersOf (x .image .now)) in
     let f : SFits w32 (w .v) = search needs in
-    ap (λ (p : ℕ). doing (Set p w) r m) (c .user-place .ensures)
-    ∙ carries 35 (x .c) refl refl r m (sym (g .ensures)) (passed (d .is-done .ensures) (i .if1 .left))
-    (ap (λ (p : ℕ). take p w (r .values)) (ap (λ (b : ℕ). bankPlace b k) (c .before .if2 .taken) ∙ user-place k)
+    carries 35 (x .c) refl refl r m (sym (g .ensures)) (passed (d .is-done .ensures) (i .if1 .left))
+    (ap (λ (p : ℕ). take p w (r .values)) (ap (λ (b : ℕ). bankPlace b k) (c .if2 .taken) ∙ user-place k)
     ∙ taken (47 + k) w (r .values) (user-settable k (w .v) f)
     ∙ user-assigned k w (r .values))
 
@@ -105,7 +94,6 @@ agp-spec =
     (λ c κs. search needs)
     (λ c κs. search needs)
     returns
-    user-place-requires
     returns-2
     (λ c κs. search needs)
     (λ c κs. search needs)

@@ -14,7 +14,7 @@ use Rattle.fields.specs.Fields as fields
 use Rattle.judge.specs.Judge.{judged, isFlow, isReading}
 use Rattle.rules.specs.Effects.{Restore}
 use Rattle.rules.specs.Deciding.{decidedBy}
-use Rattle.cmd_turns.specs.declared.Deed.the-variants.{Set}
+use Rattle.cmd_turns.specs.declared.Deed.the-variants.{User}
 use Rattle.cmd_turns.specs.Deed.{doing, seen}
 use Rattle.cmd_axis.proofs.Carries.{carries, refused, passed, right-motor, right-type}
 use Rattle.rules.proofs.Users.{user-powered}
@@ -30,20 +30,11 @@ returns c regs a n =
     refused 12 (x .c) (seen a n regs) (x .store .now) (eqb (x .c .motor) 2) (ltb (x .c .kind) 56) true
     (c .before .before .stgp .ensures) refl (c .before .is-done .ensures) (c .if1 .taken) refl
 
-user-place-requires : tie.Need-user-place-requires
-user-place-requires c κs =
-    let i = c .before .before in
-    let d = i .before in
-    let x = d .before .before .before .args .c in
-    ltb-true (x .kind) 56
-    (right-type (eqb (x .motor) 2) (ltb (x .kind) 56) true
-    (ap isDone (sym (d .before .stgp .ensures)) ∙ passed (d .is-done .ensures) (i .if1 .left)))
-
 returns-2 : tie.Need-returns-2
 unfolding judged doing isFlow isReading decidedBy
 returns-2 c regs a n =
-    let v = c .before .cell-at in
-    let i = c .before .before .before in
+    let v = c .cell-at in
+    let i = c .before .before in
     let d = i .before in
     let g = d .before .stgp in
     let x = d .before .before .before .args in
@@ -55,10 +46,9 @@ returns-2 c regs a n =
     let right : isDone (fields.stgp (x .c)) ≡ true = ap isDone (sym (g .ensures)) ∙ done in
     let two : b ≡ 2 = eqb-true b 2 (right-motor (eqb b 2) (ltb k 56) true right) in
     let small : k < 56 = ltb-true k 56 (right-type (eqb b 2) (ltb k 56) true right) in
-    let cell : v .result ≡ cellAt m (35 + k) = v .ensures ∙ ap (λ (j : ℕ). cellAt m (35 + j)) (c .before .before .wide .ensures) in
+    let cell : v .result ≡ cellAt m (35 + k) = v .ensures ∙ ap (λ (j : ℕ). cellAt m (35 + j)) (c .before .wide .ensures) in
     let fits : SFits w32 (v .result .v) = search needs in
-    ap (λ (p : ℕ). doing (Set p (v .result)) r m) (c .user-place .ensures)
-    ∙ ap (λ (w : Word). doing (Set (47 + k) w) r m) (cell ∙ user-powered m k small (rw cell at fits))
+    ap (λ (w : Word). doing (User k w) r m) (cell ∙ user-powered m k small (rw cell at fits))
     ∙ carries 12 (x .c) refl refl r m (sym (g .ensures)) done
     (ap Restore (ap (λ (b : ℕ). bankPlace b k) two ∙ user-place k))
 
@@ -72,5 +62,4 @@ rsgp-spec =
     (λ c κs. search needs)
     (λ c. search needs)
     (λ c κs. search needs)
-    user-place-requires
     returns-2)

@@ -12,11 +12,10 @@ use Rattle.rules.specs.Assigning.{assign}
 use Rattle.rules.specs.Deciding.{decidedBy}
 use Rattle.reg_image.specs.Image.{registersOf}
 use Rattle.cmd_turns.specs.declared.Deed.{Deed}
-use Rattle.cmd_turns.specs.declared.Deed.the-variants.{Set}
 use Rattle.cmd_turns.specs.Deed.{doing, seen}
 use Rattle.cmd_axis.proofs.Carries.{carries, refused, passed, right-type}
 use Rattle.settings.proofs.Users.{user-place, other-bank}
-use Rattle.cmd_globals.proofs.Users.{takes-user, takes-global, user-assigned, sets-global}
+use Rattle.cmd_globals.proofs.Users.{takes-global, user-assigned, sets-global}
 use borrow.Author.Needs.{needs}
 use Rattle.cmd_globals.proofs.sgp.Statement.{statement}
 use Rattle.cmd_globals.proofs.sgp.Tie as tie
@@ -30,29 +29,18 @@ returns c a n m =
     refused 9 (x .c) (seen a n (registersOf (x .image .now))) m (fields.isBank b) (fields.takes b k) (settable (bankPlace b k) (x .c .value .v))
     (c .before .before .sgp .ensures) refl (c .before .is-done .ensures) (c .if1 .taken) refl
 
-user-place-requires : tie.Need-user-place-requires
-unfolding sgp
-user-place-requires c κs =
-    let i = c .before .before .before in
-    let d = i .before in
-    let x = d .before .before .args .c in
-    takes-user (x .motor) (x .kind) (c .if2 .taken)
-    (right-type (fields.isBank (x .motor)) (fields.takes (x .motor) (x .kind)) (settable (bankPlace (x .motor) (x .kind)) (x .value .v))
-    (ap isDone (sym (d .before .sgp .ensures)) ∙ passed (d .is-done .ensures) (i .if1 .left)))
-
 returns-2 : tie.Need-returns-2
 unfolding judged sgp doing isFlow isReading decidedBy
 returns-2 c a n m =
-    let i = c .before .before .before .before in
+    let i = c .before .before .before in
     let d = i .before in
     let g = d .before .sgp in
     let x = d .before .before .args in
     let k = x .c .kind in
     let w = x .c .value in
     let r = seen a n (registersOf (x .image .now)) in
-    ap (λ (p : ℕ). doing (Set p w) r m) (c .user-place .ensures)
-    ∙ carries 9 (x .c) refl refl r m (sym (g .ensures)) (passed (d .is-done .ensures) (i .if1 .left))
-    (ap (λ (p : ℕ). assign p w (r .values)) (ap (λ (b : ℕ). bankPlace b k) (c .before .if2 .taken) ∙ user-place k)
+    carries 9 (x .c) refl refl r m (sym (g .ensures)) (passed (d .is-done .ensures) (i .if1 .left))
+    (ap (λ (p : ℕ). assign p w (r .values)) (ap (λ (b : ℕ). bankPlace b k) (c .if2 .taken) ∙ user-place k)
     ∙ user-assigned k w (r .values))
 
 returns-3 : tie.Need-returns-3
@@ -82,7 +70,6 @@ sgp-spec =
     (λ c κs. search needs)
     (λ c κs. search needs)
     returns
-    user-place-requires
     returns-2
     (λ c κs. search needs)
     returns-3)

@@ -91,6 +91,10 @@ returns-21 : tie.Need-returns-21
 unfolding doing
 returns-21 c = record { makes = simp (c .stops2 .ensures, c .before .enum-told6 .given .1); kept = same _; stays = λ t. t }
 
+returns-22 : tie.Need-returns-22
+unfolding doing
+returns-22 c = record { makes = simp (c .goes18 .ensures, c .before .before .before .before .deed16 .given .1, lt-ltb _ _ (c .before .before .before .before .before .before .before .pre), c .before .set-value3 .ensures .makes); kept = by _ _ _ (λ r. refl) (λ r. refl) (c .before .set-value3 .ensures); stays = c .before .set-value3 .ensures .stays }
+
 pub apply-spec : {M : Type 1} → statement M
 apply-spec =
     tie.close
@@ -164,6 +168,11 @@ apply-spec =
     (λ c κs. search needs)
     (λ c. search needs)
     (λ c κs. search needs)
+    (λ c. search needs)
+    (λ c. search needs)
+    (λ c. search needs)
+    (λ c κs. search needs)
+    (λ c κs. search needs)
     returns
     returns-2
     returns-3
@@ -186,4 +195,5 @@ apply-spec =
     returns-18
     returns-19
     returns-20
-    returns-21)
+    returns-21
+    returns-22)

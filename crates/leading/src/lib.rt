@@ -102,10 +102,11 @@ fn paths_of(program: &[u8], address: u16) -> Paths
 pub fn paths_at(program: &[u8], address: u16) -> Paths
     ensures { λ r. ⌜ AtEach (wayAt (now (program .entry))) address r ⌝ }
 {
-    if Point::END <= address {
-        return Paths::Bad(Status::Value);
+    if address < Point::END {
+        paths_of(program, address)
+    } else {
+        Paths::Bad(Status::Value)
     }
-    paths_of(program, address)
 }
 
 // The laws of where points lead, held to be proved: the function does nothing.

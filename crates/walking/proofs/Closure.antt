@@ -44,8 +44,8 @@ pub record Holds (way : Point → Way) (f : Found) (E : ℕ → ℕ → Type 0) 
   pub kept : Kept way f (With E (y .address) (y .depths)) (y .walk)
   pub here : (d : ℕ) → Has (y .depths) d → At (y .walk) (y .address) d
   pub small : y .depths < 512
-  pub inside : y .address ≤ 1024
-  pub idle : y .depths ≡ 0 → y .walk .n ≡ 0
+  pub inside : (y .address ≡ 1025 → ⊥) → (y .address ≤ 1024) × (0 < y .depths)
+  pub idle : y .address ≡ 1025 → (y .depths ≡ 0) × (y .walk .n ≡ 0)
 
 module _ (way : Point → Way) where
   pub closed-on : {f g : Found} {x y : Walk} {b d : ℕ} → g .number ≤ f .number → Grown x y → Closed way f x b d → Closed way g y b d
@@ -144,7 +144,7 @@ module _ (way : Point → Way) where
               (λ d k. new d (subst (λ u. Has u d) e k)) (λ d k. inr (inr (refl, subst (λ u. Has u d) e k))) (λ b d w. inl w);
           here = λ d k. rw (getD-set-same (x .masks) a v 0 q) (subst (λ u. Has u d) (sym e) k);
           small = l;
-          inside = h;
+          inside = λ _. (h, p);
           idle = λ z. absurd (omega arith);
         }
 
@@ -161,8 +161,8 @@ module _ (way : Point → Way) where
             };
             here = λ d k. absurd (has-none d k);
             small = omega arith;
-            inside = omega arith;
-            idle = λ _. z;
+            inside = λ g. absurd (g refl);
+            idle = λ _. (refl, z);
           },
           λ b d k. k,
         ))

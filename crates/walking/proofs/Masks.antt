@@ -155,10 +155,10 @@ module _ (x : Walk) where
   abbrev pub off : Held
   off = held (walk (set (x .masks) (top x) (depthsAt x (top x))) (x .stack) (x .n - 1)) (top x) (depthsAt x (top x))
 
-  pub taken-cases : (P : Held → Type 0) → (x .n ≡ 0 → P (held x 0 0)) → (0 < x .n → P off) → P (taken x)
+  pub taken-cases : (P : Held → Type 0) → (x .n ≡ 0 → P (held x 1025 0)) → (0 < x .n → P off) → P (taken x)
   unfolding taken
   taken-cases P f g =
-      either P (eqb (x .n) 0) (held x 0 0) off (λ t. f (eqb-true _ _ t)) (λ t. g (omega (arith, eqb-false (x .n) 0 t)))
+      either P (eqb (x .n) 0) (held x 1025 0) off (λ t. f (eqb-true _ _ t)) (λ t. g (omega (arith, eqb-false (x .n) 0 t)))
 
   module _ (r : Room x) where
     pub top-filled : 0 < x .n → 0 < depthsAt x (top x)

@@ -49,7 +49,7 @@ blank-room b =
     record { masks = b .masks; slots = b .slots; small = λ a. omega (arith, b .clear a); counted = omega arith; filled = λ k h. absurd (omega arith) }
 
 -- ---- what is left after a turn
-one-more : (k d : ℕ) → (d ≡ 0 → ⊥) → k < k + (d - (d - 1))
+one-more : (k d : ℕ) → 0 < d → k < k + (d - (d - 1))
 one-more k d n = omega (arith, n)
 
 falls : (x : Walk) (m : ℕ) (paths : Paths) → Room x → m < 512 → EndsIn paths → leftHeld (spreadOver x m paths) ≤ left x
@@ -184,14 +184,15 @@ module _ (way : Point → Way) (ok : Good way) where
       (λ d h. subst (λ c. Reach way (point 0 c)) (sym (only-zero d h)) Reach.begin) in
       subst (λ y. Going way y (found 9225 Done)) (sym e) (record { holds = g .0; begun = g .2 0 has-zero; real = inl refl })
 
-  pub turned : {y z : Held} {f g : Found} {paths : Paths} → Going way y f → AtEach way (y .address) paths → Noted paths (y .address) (y .depths) f g
+  pub turned : {y z : Held} {f g : Found} {paths : Paths} → Going way y f → (y .address ≡ 1025 → ⊥) → AtEach way (y .address) paths → Noted paths (y .address) (y .depths) f g
       → z ≡ spreadOver (y .walk) (y .depths) paths → Going way z g
-  turned {y} {z} {f} {g} {paths} go each n e =
+  turned {y} {z} {f} {g} {paths} go some each n e =
       let a = y .address in
       let m = y .depths in
       let h = go .holds in
+      let in-store = h .inside some .0 in
       let from : (d : ℕ) → Has m d → Reach way (point a d) = λ d k. h .kept .sound a d (h .here d k) in
-      let t = spread way g (With None a m) (y .walk) m (kept-lower (n .lower) (h .kept)) (h .small) paths (ends-in a paths (h .inside) each)
+      let t = spread way g (With None a m) (y .walk) m (kept-lower (n .lower) (h .kept)) (h .small) paths (ends-in a paths in-store each)
       (λ d q k l. Reach.onward (from d k) (subst (λ w. Leads w q) (sym (each d)) l)) in
       subst (λ v. Going way v g) (sym e)
       (record {
@@ -201,26 +202,27 @@ module _ (way : Point → Way) (ok : Good way) where
         real = ⊎-elim
             (λ q. subst (λ (i : Found). (i ≡ found 9225 Done) ⊎ ((i .number < 9225) × Reach way (pointAt (i .number)) × (way (pointAt (i .number)) ≡ ways.Bad (i .status)))) (sym q) (go .real))
             (λ r. let d = r .0 in
-            let v : IsPoint (point a d) = record { address = h .inside; depth = depth-low m d (h .small) (r .2) } in
+            let v : IsPoint (point a d) = record { address = in-store; depth = depth-low m d (h .small) (r .2) } in
             let p : pointAt (g .number) ≡ point a d = ap pointAt (r .1) ∙ point-number (point a d) v in
             inr (omega (arith, r .1, number-low (point a d) v), subst (Reach way) (sym p) (from d (r .2)), ap way p ∙ each d ∙ r .3))
             (n .real);
       })
 
   -- what is left falls with each turn
-  pub less : {y z : Held} {f : Found} (paths : Paths) → Going way y f → (y .depths ≡ 0 → ⊥) → AtEach way (y .address) paths
+  pub less : {y z : Held} {f : Found} (paths : Paths) → Going way y f → (y .address ≡ 1025 → ⊥) → AtEach way (y .address) paths
       → z ≡ spreadOver (y .walk) (y .depths) paths → leftHeld z < leftHeld y
-  less {y} {z} {f} paths go n each e =
+  less {y} {z} {f} paths go some each e =
       let h = go .holds in
+      let i = h .inside some in
       subst (λ v. leftHeld v < leftHeld y) (sym e)
-      (lt-of-le-of-lt (falls (y .walk) (y .depths) paths (h .kept .room) (h .small) (ends-in (y .address) paths (h .inside) each)) (one-more (left (y .walk)) (y .depths) n))
+      (lt-of-le-of-lt (falls (y .walk) (y .depths) paths (h .kept .room) (h .small) (ends-in (y .address) paths (i .0) each)) (one-more (left (y .walk)) (y .depths) (i .1)))
 
   -- ---- the end: nothing is in hand, so nothing waits
-  module _ {y : Held} {f : Found} (go : Going way y f) (z : y .depths ≡ 0) where
+  module _ {y : Held} {f : Found} (go : Going way y f) (z : y .address ≡ 1025) where
     all-closed : (b d : ℕ) → At (y .walk) b d → Closed way f (y .walk) b d
     all-closed b d k =
-        ⊎-elim (λ w. absurd (let s = go .holds .kept .stands b w in omega (arith, s .1, go .holds .idle z)))
-        (⊎-elim (⊎-elim (λ v. absurd v) (λ e. absurd (has-none d (subst (λ m. Has m d) z (e .1))))) (λ c. c))
+        ⊎-elim (λ w. absurd (let s = go .holds .kept .stands b w in omega (arith, s .1, go .holds .idle z .1)))
+        (⊎-elim (⊎-elim (λ v. absurd v) (λ e. absurd (has-none d (subst (λ m. Has m d) (go .holds .idle z .0) (e .1))))) (λ c. c))
         (go .holds .kept .done b d k)
 
     all-at : {p : Point} → Reach way p → At (y .walk) (p .address) (p .depth)

@@ -44,7 +44,7 @@ maskAt x a = getD (x .masks) a 0
 abbrev pub depthsAt : Walk → ℕ → ℕ
 depthsAt x a = maskAt x a % 512
 
--- .. with the address in hand, to be looked at next, and its depths; no depths where nothing is left
+-- .. with the address in hand, to be looked at next, and its depths; 1,025, which is no address, and no depths where nothing is left
 pub record Held : Type 0 where
   pub walk : Walk
   pub address : ℕ
@@ -74,7 +74,7 @@ top x = getD (x .stack) (x .n - 1) 0
 -- the last address of the stack in hand
 unfoldable pub taken : Walk → Held
 taken x =
-    pick (eqb (x .n) 0) (held x 0 0)
+    pick (eqb (x .n) 0) (held x 1025 0)
     (held (walk (set (x .masks) (top x) (depthsAt x (top x))) (x .stack) (x .n - 1)) (top x) (depthsAt x (top x)))
 
 -- an address reached, and in hand at once if one of its depths is new and it does not wait

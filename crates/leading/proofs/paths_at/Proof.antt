@@ -12,15 +12,15 @@ use Rattle.leading.proofs.paths_at.Tie as tie
 
 returns : tie.Need-returns
 unfolding wayAt statusAt
-returns c d = simp (le-leb _ _ (c .if1 .taken))
+returns c d =
+    let i = c .before in
+    let x = i .before .before .args in
+    simp (lt-leb _ _ (i .if1 .taken))
+    (each (recordAt (x .program .now) (x .address)) (x .address) d ∙ ap (λ (p : Paths). atDepth p d) (sym (c .paths-of .ensures)))
 
 returns-2 : tie.Need-returns-2
 unfolding wayAt statusAt
-returns-2 c d =
-    let i = c .before in
-    let x = i .before .before .args in
-    simp (lt-leb _ _ (i .if1 .left))
-    (each (recordAt (x .program .now) (x .address)) (x .address) d ∙ ap (λ (p : Paths). atDepth p d) (sym (c .paths-of .ensures)))
+returns-2 c d = simp (le-leb _ _ (c .if1 .left))
 
 pub paths-at-spec : {M : Type 1} → statement M
-paths-at-spec = tie.close (tie.spec returns (λ c κs. search needs) returns-2)
+paths-at-spec = tie.close (tie.spec (λ c κs. search needs) returns returns-2)

@@ -32,18 +32,21 @@ loop-holds c =
 note-requires : tie.Need-note-requires Inv-loop μ-loop
 note-requires c κs =
     let h = c .before .before .before .loop .inv .holds in
-    (h .inside, omega (arith, c .before .if1 .taken), h .small)
+    let i = h .inside (c .before .if1 .taken) in
+    (i .0, i .1, h .small)
 
 spread-requires : tie.Need-spread-requires Inv-loop μ-loop
 spread-requires c κs =
-    let h = c .before .before .before .before .before .before .loop .inv .holds in
-    (ends-in (wayAt _) (leads-in _) _ (c .before .before .before .paths-at .result) (h .inside) (c .before .before .before .paths-at .ensures), h .small, h .kept .room)
+    let b = c .before .before .before in
+    let h = b .before .before .before .loop .inv .holds in
+    let i = h .inside (b .before .if1 .taken) in
+    (ends-in (wayAt _) (leads-in _) _ (b .paths-at .result) (i .0) (b .paths-at .ensures), h .small, h .kept .room)
 
 loop-less : tie.Need-loop-less Inv-loop μ-loop
 loop-less c = less (wayAt _) (leads-in _) (c .before .before .before .before .paths-at .result) (c .before .before .before .before .before .before .before .loop .inv) (c .before .before .before .before .before .if1 .taken) (c .before .before .before .before .paths-at .ensures) (c .spread .ensures)
 
 loop-again : tie.Need-loop-again Inv-loop μ-loop
-loop-again c = turned (wayAt _) (leads-in _) (c .before .before .before .before .before .before .before .loop .inv) (c .before .before .before .before .paths-at .ensures) (c .before .before .before .note .ensures) (c .spread .ensures)
+loop-again c = turned (wayAt _) (leads-in _) (c .before .before .before .before .before .before .before .loop .inv) (c .before .before .before .before .before .if1 .taken) (c .before .before .before .before .paths-at .ensures) (c .before .before .before .note .ensures) (c .spread .ensures)
 
 returns : tie.Need-returns Inv-loop μ-loop
 returns c = finished (wayAt _) (leads-in _) (c .before .before .loop .inv) (c .if1 .left)

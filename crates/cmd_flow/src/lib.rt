@@ -89,24 +89,24 @@ pub fn ja(c: Command) -> Deed
     Deed::Jump(jumping::address_of(c.value))
 }
 
-// CSUB is refused after its target, where the stack is full.
-pub fn csub(c: Command, image: &[u32; REGISTERS]) -> Deed
-    ensures { λ r. ⌜ Always 23 c (registersOf (now (image .entry))) r ⌝ }
+// CSUB, with a stack of this depth, is refused after its target, where the stack is full.
+pub fn csub(c: Command, depth: u32) -> Deed
+    ensures { λ r. ⌜ ((regs : Registers) → regs .core .depth ≡ depth → Always 23 c regs r) ⌝ }
 {
     let judged = target_fields::ja(c);
     if !judged.is_done() {
         return Deed::Refused(judged);
     }
-    if 8 <= reg_image::depth(image) {
+    if 8 <= depth {
         return Deed::Refused(Status::Unavailable);
     }
     Deed::Call(jumping::address_of(c.value))
 }
 
-pub fn rsub(image: &[u32; REGISTERS]) -> Deed
-    ensures { λ r. ⌜ ((c : Command) → Always 24 c (registersOf (now (image .entry))) r) ⌝ }
+pub fn rsub(depth: u32) -> Deed
+    ensures { λ r. ⌜ ((c : Command) (regs : Registers) → regs .core .depth ≡ depth → Always 24 c regs r) ⌝ }
 {
-    if reg_image::depth(image) == 0 {
+    if depth == 0 {
         return Deed::Refused(Status::Unavailable);
     }
     Deed::Back

@@ -4,9 +4,11 @@ use native.Mathlib.Omega.{arith}
 use mathlib.Core.Path.{_≡_, refl, sym, ap, _∙_}
 use mathlib.Core.Bool.{Bool, true, false}
 use mathlib.Core.List.{List}
+use borrow.Author.Tests.{le-leb}
 use Rattle.words.specs.Word.{pick}
 use Rattle.words.proofs.Bools.{is-T}
 use Rattle.status.specs.declared.Status.{Status}
+use Rattle.status.specs.declared.Status.the-variants.{Value}
 use Rattle.board.specs.declared.Registers.{Registers}
 use Rattle.reg_image.specs.Image.{registersOf}
 use Rattle.cmd_turns.specs.declared.Left.{Left}
@@ -38,6 +40,14 @@ module _ (program : List ℕ) (first records : ℕ) where
     pub over : u ≤ 0 → walk (turn r m status Goes) u ≡ w
     unfolding going
     over h = let e : u ≡ 0 = omega arith in rw e (rw e at inv)
+
+    -- past the last record
+    pub past : 0 < u → records ≤ r .core .address → walk (turn r m Value Stops) (u - 1) ≡ w
+    unfolding stepTurn
+    past h e =
+        let s : stepTurn program first records r m ≡ turn r m Value Stops = simp (le-leb _ _ e) in
+        sym (more u (turn r m status Goes) h ∙ ap (λ (t : Turn). pick (isGoing (t .left)) (going program first records (u - 1) t) (walk t (u - 1))) s)
+        ∙ inv
 
     module _ (h : 0 < u) (s : Stepped) (k n : List ℕ) (made : turnOf s k n ≡ stepTurn program first records r m) where
       pub again : isGoing (s .left) ≡ true

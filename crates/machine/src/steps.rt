@@ -1,9 +1,7 @@
 // Steps: a record is read in the arm of its number, decided, and done. `step` is called from one place, so
 // that the compiler makes one loop of all this, and keeps accumulator and address in machine registers.
-ghost use Prim.Native.Nat.{_+_, _*_, _≤_};
-ghost use mathlib.Core.Bool.{_&&_};
+ghost use Prim.Native.Nat.{_+_, _*_, _<_, _≤_};
 ghost use mathlib.Core.Path.{_≡_};
-ghost use lib.Dec.{leb, ltb};
 ghost use lib.ListN.{length, getD};
 ghost use Rattle.wire.specs.Frame.{commandAt};
 ghost use Rattle.registers.specs.Registers.{nextAddress};
@@ -24,18 +22,9 @@ use status::Status;
 use wire::command_in;
 use words::Word;
 
-// Whether a number is that of CSUB or RSUB.
-fn is_subroutine(number: u8) -> bool
-    ensures { λ r. ⌜ r ≡ (leb 23 number && ltb number 25) ⌝ }
-{
-    if number < 23 {
-        return false;
-    }
-    number < 25
-}
-
 // CSUB and RSUB are told apart by tests behind the match: calls nest and returns follow one another, and in
-// a row of equal steps a processor foresees a test from further back than the target of a jump.
+// a row of equal steps a processor foresees a test from further back than the target of a jump. What both
+// need is read before the tests, else the compiler makes them cases of the jump again.
 fn decide(
     number: u8,
     seven: &[u8],
@@ -74,18 +63,19 @@ fn decide(
         35 => cmd_globals::agp(command_in(seven), accumulator, image),
         36 => cmd_numbers::clear(command_in(seven)),
         _ => {
-            if is_subroutine(number) {
-                if number == 23 {
-                    return cmd_flow::csub(command_in(seven), image);
-                }
-                return cmd_flow::rsub(image);
+            let depth = reg_image::depth(image);
+            if number == 23 {
+                return cmd_flow::csub(command_in(seven), depth);
+            }
+            if number == 24 {
+                return cmd_flow::rsub(depth);
             }
             Deed::Nothing
         }
     }
 }
 
-// One step of so many records, from a place on.
+// One step, at one of so many records, from a place on.
 fn step(
     accumulator: Word,
     address: u32,
@@ -95,17 +85,9 @@ fn step(
     first: usize,
     records: u32,
 ) -> Stepped
-    requires { ⌜ (first + records * 7 ≤ length (now program)) × (records ≤ 1024) ⌝ }
+    requires { ⌜ (address < records) × (first + records * 7 ≤ length (now program)) × (records ≤ 1024) ⌝ }
     ensures { λ r. ⌜ Makes (spec.stepTurn (now (program .entry)) first records (seen accumulator address (registersOf (now (image .entry)))) (now (store .entry))) (now (image .entry)) r (now (image .exit)) (now (store .exit)) ⌝ }
 {
-    if records <= address {
-        return Stepped {
-            accumulator: accumulator,
-            address: address,
-            status: Status::Value,
-            left: Left::Stops,
-        };
-    }
     let p = first + address as usize * 7;
     let next = (address + 1) as u16;
     let number = program[p];
@@ -131,7 +113,8 @@ fn goes_on(left: Left) -> bool
     }
 }
 
-// Steps until the budget is used or one does not go on.
+// Steps until the budget is used or one does not go on. The end of the records is told here: what a step
+// answers there is not held in a machine register at every other one.
 pub(crate) fn go(
     from: Word,
     address: u32,
@@ -150,6 +133,15 @@ pub(crate) fn go(
     let mut status = Status::Done;
     let mut unused = budget;
     while 0 < unused {
+        if records <= there {
+            return Gone {
+                accumulator: accumulator,
+                address: there,
+                status: Status::Value,
+                left: Left::Stops,
+                unused: unused - 1,
+            };
+        }
         let stepped = step(accumulator, there, image, store, program, first, records);
         accumulator = stepped.accumulator;
         there = stepped.address;

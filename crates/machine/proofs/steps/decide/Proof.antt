@@ -1,52 +1,46 @@
 -- `machine::steps::decide` meets its contract. Assumes nothing.
-use Prim.Native.Nat.{ℕ}
-use mathlib.Core.Bool.{true, false, true≢false, _&&_}
 use mathlib.Core.Path.{_≡_, refl, sym, ap, _∙_}
-use native.Mathlib.Omega.{arith}
-use lib.Dec.{leb, ltb}
+use mathlib.Core.List.{List}
+use Prim.Native.Nat.{ℕ}
 use lib.ListN.{getD}
-use borrow.Author.Tests.{ne-eqb, leb-true, ltb-true}
-use Rattle.words.proofs.Bools.{each}
+use borrow.Author.Tests.{ne-eqb}
 use Rattle.wire.specs.Frame.{commandAt}
 use Rattle.wire.specs.declared.Command.{Command}
+use Rattle.status.specs.declared.Status.the-variants.{Unknown}
+use Rattle.board.specs.declared.Registers.{Registers}
 use Rattle.judge.specs.Judge.{judged, isFlow}
 use Rattle.judge.proofs.Numbered.{told}
 use Rattle.reg_image.specs.Image.{registersOf}
 use Rattle.cmd_turns.specs.Turn.{turned, through, flowed}
 use Rattle.cmd_turns.specs.Deed.{doing, seen}
+use Rattle.cmd_turns.specs.declared.Deed.the-variants.{Nothing}
 use borrow.Author.Needs.{needs}
 use Rattle.machine.proofs.steps.decide.Statement.{statement}
 use Rattle.machine.proofs.steps.decide.Tie as tie
 
--- of the two numbers, the one that is not the first; and none of the two
-above : (n : ℕ) → leb 23 n && ltb n 25 ≡ true → (n ≡ 23 → ⊥) → n ≡ 24
-above n e f =
-    let p = each (leb 23 n) (ltb n 25) e in
-    let low = leb-true 23 n (p .0) in
-    let high = ltb-true n 25 (p .1) in
-    omega arith
-
-beside : (n k : ℕ) → leb 23 n && ltb n 25 ≡ false → n ≡ k → leb 23 k && ltb k 25 ≡ true → ⊥
-beside n k e q t = true≢false (sym t ∙ ap (λ (m : ℕ). leb 23 m && ltb m 25) (sym q) ∙ e)
+-- what the judge does not know stops
+nothing : (e : Command) (r : Registers) (m : List ℕ) → judged e ≡ Unknown → doing Nothing r m ≡ turned e r m
+unfolding turned doing
+nothing e r m j = rw j
 
 returns : tie.Need-returns
 returns c =
     let d = c .before in
     let i = d .before in
-    let x = i .before .before .before .before .before .before in
+    let p = i .before in
+    let x = p .before .before .before .before in
     let r = seen (x .args .accumulator) (x .args .address) (registersOf (x .args .image .now)) in
-    c .csub .ensures (x .args .accumulator) (x .args .address) (x .args .store .now)
-    ∙ ap (λ (e : Command). turned e r (x .args .store .now)) (told 23 (d .command-in24 .result) (commandAt (x .args .seven .now) 0) (d .command-in24 .ensures) (sym (x .pre .0) ∙ i .if2 .taken))
+    c .csub .ensures (registersOf (x .args .image .now)) (sym (p .depth .ensures)) (x .args .accumulator) (x .args .address) (x .args .store .now)
+    ∙ ap (λ (e : Command). turned e r (x .args .store .now)) (told 23 (d .command-in24 .result) (commandAt (x .args .seven .now) 0) (d .command-in24 .ensures) (sym (x .pre .0) ∙ i .if1 .taken))
 
 returns-2 : tie.Need-returns-2
 returns-2 c =
     let i = c .before in
-    let s = i .before .before in
-    let x = s .before .before .before .before in
+    let p = i .before .before in
+    let x = p .before .before .before .before in
     let r = seen (x .args .accumulator) (x .args .address) (registersOf (x .args .image .now)) in
-    let e : x .args .number ≡ 24 = above (x .args .number) (sym (s .is-subroutine .ensures) ∙ i .before .if1 .taken) (i .if2 .left) in
-    c .rsub .ensures (commandAt (x .args .seven .now) 0) (x .args .accumulator) (x .args .address) (x .args .store .now)
-    ∙ ap (λ (e : Command). turned e r (x .args .store .now)) (told 24 (commandAt (x .args .seven .now) 0) (commandAt (x .args .seven .now) 0) refl (sym (x .pre .0) ∙ e))
+    c .rsub .ensures (commandAt (x .args .seven .now) 0) (registersOf (x .args .image .now)) (sym (p .depth .ensures)) (x .args .accumulator) (x .args .address) (x .args .store .now)
+    ∙ ap (λ (e : Command). turned e r (x .args .store .now)) (told 24 (commandAt (x .args .seven .now) 0) (commandAt (x .args .seven .now) 0) refl (sym (x .pre .0) ∙ i .if2 .taken))
 
 returns-3 : tie.Need-returns-3
 returns-3 c =
@@ -263,12 +257,13 @@ returns-26 c =
     ∙ ap (λ (e : Command). turned e r (x .args .store .now)) (told 36 (d .command-in23 .result) (commandAt (x .args .seven .now) 0) (d .command-in23 .ensures) (sym (x .pre .0) ∙ i .match .keys24))
 
 returns-27 : tie.Need-returns-27
-unfolding judged turned doing
+unfolding judged
 returns-27 c =
-    let s = c .before in
-    let t = s .before .match .rest in
-    let x = s .before .before .before .before in
-    simp (
+    let p = c .before .before in
+    let t = p .before .match .rest in
+    let x = p .before .before .before .before in
+    let e = commandAt (x .args .seven .now) 0 in
+    let j : judged e ≡ Unknown = simp (
       ← x .pre .0,
       ne-eqb _ _ (t .0 .0 .0 .0 .0 .0 .0 .0 .0 .0 .0 .0 .0 .0 .0 .0 .0 .0 .0 .0 .0 .0 .0 .1),
       ne-eqb _ _ (t .0 .0 .0 .0 .0 .0 .0 .0 .0 .0 .0 .0 .0 .0 .0 .0 .0 .0 .0 .0 .0 .0 .1),
@@ -288,15 +283,16 @@ returns-27 c =
       ne-eqb _ _ (t .0 .0 .0 .0 .0 .0 .0 .0 .1),
       ne-eqb _ _ (t .0 .0 .0 .0 .0 .0 .0 .1),
       ne-eqb _ _ (t .0 .0 .0 .0 .0 .0 .1),
-      ne-eqb _ _ (λ (q : x .args .number ≡ 23). beside (x .args .number) 23 (sym (s .is-subroutine .ensures) ∙ c .if1 .left) q refl),
-      ne-eqb _ _ (λ (q : x .args .number ≡ 24). beside (x .args .number) 24 (sym (s .is-subroutine .ensures) ∙ c .if1 .left) q refl),
+      ne-eqb _ _ (c .before .if1 .left),
+      ne-eqb _ _ (c .if2 .left),
       ne-eqb _ _ (t .0 .0 .0 .0 .0 .1),
       ne-eqb _ _ (t .0 .0 .0 .0 .1),
       ne-eqb _ _ (t .0 .0 .0 .1),
       ne-eqb _ _ (t .0 .0 .1),
       ne-eqb _ _ (t .0 .1),
       ne-eqb _ _ (t .1),
-    )
+    ) in
+    nothing e (seen (x .args .accumulator) (x .args .address) (registersOf (x .args .image .now))) (x .args .store .now) j
 
 pub decide-spec : {M : Type 1} → statement M
 decide-spec =

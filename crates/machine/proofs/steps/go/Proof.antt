@@ -14,7 +14,7 @@ use Rattle.reg_image.specs.Image.{registersOf, shaped}
 use Rattle.machine.specs.Applied.{Kept}
 use Rattle.machine.specs.Steps.{going}
 use Rattle.machine.proofs.Keeps.{same, both}
-use Rattle.machine.proofs.Goings.{over, again, ended}
+use Rattle.machine.proofs.Goings.{over, past, again, ended}
 use borrow.Author.Needs.{needs}
 use Rattle.machine.proofs.steps.go.Statement.{statement}
 use Rattle.machine.proofs.steps.go.Tie as tie
@@ -34,19 +34,34 @@ loop-holds : tie.Need-loop-holds Inv-loop μ-loop
 loop-holds c = (refl, λ t. t, refl, same _)
 
 step-requires : tie.Need-step-requires Inv-loop μ-loop
-step-requires c κs = c .before .before .before .before .before .before .pre
+step-requires c κs =
+    let i = c .before .before in
+    let p = i .before .before .before .before .before .pre in
+    (i .if1 .left, p .0, p .1)
 
 returns : tie.Need-returns Inv-loop μ-loop
 returns c =
+    let t = c .before in
+    let l = t .before in
+    let x = l .before .before .before .args in
+    record {
+      makes =
+          past (x .program .now) (x .first) (x .records) (l .loop .unused) (seen (l .loop .accumulator) (l .loop .there) (registersOf (l .loop .image))) (l .loop .store) (l .loop .status) _ (l .loop .inv .0) (t .loop-test .taken) (c .if1 .taken);
+      kept = l .loop .inv .3;
+      stays = l .loop .inv .1;
+    }
+
+returns-2 : tie.Need-returns-2 Inv-loop μ-loop
+returns-2 c =
     let g = c .before in
     let s = g .before .before .before .before in
-    let t = s .before .before .before in
+    let t = s .before .before .before .before in
     let l = t .before in
     let x = l .before .before .before .args in
     record {
       makes =
           ended (x .program .now) (x .first) (x .records) (l .loop .unused) (seen (l .loop .accumulator) (l .loop .there) (registersOf (l .loop .image))) (l .loop .store) (l .loop .status) _ (l .loop .inv .0) (t .loop-test .taken) (s .step .result) _ _ (s .step .ensures .makes)
-          (sym (g .goes-on .ensures) ∙ not-true (g .goes-on .result) (c .if1 .taken));
+          (sym (g .goes-on .ensures) ∙ not-true (g .goes-on .result) (c .if2 .taken));
       kept = both _ _ _ (l .loop .inv .3) (s .step .ensures .kept);
       stays = λ e. s .step .ensures .stays (l .loop .inv .1 e);
     }
@@ -55,18 +70,18 @@ loop-again : tie.Need-loop-again Inv-loop μ-loop
 loop-again c =
     let g = c .before in
     let s = g .before .before .before .before in
-    let t = s .before .before .before in
+    let t = s .before .before .before .before in
     let l = t .before in
     let x = l .before .before .before .args in (
       again (x .program .now) (x .first) (x .records) (l .loop .unused) (seen (l .loop .accumulator) (l .loop .there) (registersOf (l .loop .image))) (l .loop .store) (l .loop .status) _ (l .loop .inv .0) (t .loop-test .taken) (s .step .result) _ _ (s .step .ensures .makes)
-          (sym (g .goes-on .ensures) ∙ not-false (g .goes-on .result) (c .if1 .left)),
+          (sym (g .goes-on .ensures) ∙ not-false (g .goes-on .result) (c .if2 .left)),
       λ e. s .step .ensures .stays (l .loop .inv .1 e),
       search needs,
       both _ _ _ (l .loop .inv .3) (s .step .ensures .kept),
     )
 
-returns-2 : tie.Need-returns-2 Inv-loop μ-loop
-returns-2 c =
+returns-3 : tie.Need-returns-3 Inv-loop μ-loop
+returns-3 c =
     let l = c .before in
     let x = l .before .before .before .args in
     record {
@@ -83,12 +98,15 @@ go-spec =
     Inv-loop
     μ-loop
     loop-holds
+    (λ c. search needs)
+    (λ c. search needs)
+    returns
     step-requires
     (λ c. search needs)
     (λ c κs. search needs)
     (λ c. search needs)
-    returns
+    returns-2
     (λ c. search needs)
     loop-again
     (λ c. search needs)
-    returns-2)
+    returns-3)

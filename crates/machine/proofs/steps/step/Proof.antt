@@ -2,43 +2,36 @@
 use native.Mathlib.Omega.{arith}
 use Prim.Native.Nat.{_+_, _*_, _-_, _<_}
 use mathlib.Core.Path.{sym, _∙_}
-use borrow.Author.Tests.{le-leb, lt-leb, lt-ltb}
+use borrow.Author.Tests.{lt-leb, lt-ltb}
 use Rattle.words.proofs.Parts.{byte-part}
 use Rattle.wire.proofs.Parts.{command-part}
 use Rattle.machine.specs.Steps.{stepTurn}
-use Rattle.machine.proofs.Keeps.{same}
 use borrow.Author.Needs.{needs}
 use Rattle.machine.proofs.steps.step.Statement.{statement}
 use Rattle.machine.proofs.steps.step.Tie as tie
 
-returns : tie.Need-returns
-unfolding stepTurn
-returns c = record { makes = simp (le-leb _ _ (c .if1 .taken)); kept = same _; stays = λ t. t }
-
 decide-requires : tie.Need-decide-requires
 decide-requires c κs =
-    let i = c .before .before .before .before in
-    let x = i .before .before .before in
+    let x = c .before .before .before .before .before .before in
     let p = x .args .first + x .args .address * 7 in
-    let h : x .args .address < 1024 = omega (arith, i .if1 .left, x .pre .1) in
+    let h : x .args .address < 1024 = omega (arith, x .pre .0, x .pre .2) in
     (sym (byte-part (x .args .program .now) p (p + 7 - p) (omega arith)), rw (lt-ltb (x .args .address) 1024 h))
 
-returns-2 : tie.Need-returns-2
+returns : tie.Need-returns
 unfolding stepTurn
-returns-2 c =
+returns c =
     let a = c .before .before in
     let d = a .before .before .before in
-    let i = d .before .before .before .before .before in
-    let x = i .before .before .before .args in
+    let b = d .before .before .before .before .before .before .before in
+    let x = b .args in
     let p = x .first + x .address * 7 in
     let e = rw (command-part (x .program .now) p (p + 7 - p) (omega arith)) at (d .decide .ensures) in
-    record { makes = simp (lt-leb _ _ (i .if1 .left)) (a .apply .ensures .makes ∙ e); kept = a .apply .ensures .kept; stays = a .apply .ensures .stays }
+    record { makes = simp (lt-leb _ _ (b .pre .0)) (a .apply .ensures .makes ∙ e); kept = a .apply .ensures .kept; stays = a .apply .ensures .stays }
 
 pub step-spec : {M : Type 1} → statement M
 step-spec =
     tie.close
     (tie.spec
-    returns
     (λ c. search needs)
     (λ c. search needs)
     (λ c. search needs)
@@ -51,4 +44,4 @@ step-spec =
     decide-requires
     (λ c κs. search needs)
     (λ c. search needs)
-    returns-2)
+    returns)

@@ -1,5 +1,5 @@
 -- Steps one after the other: what a turn of the loop keeps. Assumes nothing.
-use Prim.Native.Nat.{ℕ, zero, suc, _+_, _-_, _≤_, _<_}
+use Prim.Native.Nat.{ℕ, zero, suc, _-_, _≤_, _<_}
 use native.Mathlib.Omega.{arith}
 use mathlib.Core.Path.{_≡_, refl, sym, ap, _∙_}
 use mathlib.Core.Bool.{Bool, true, false}
@@ -41,13 +41,18 @@ module _ (program : List ℕ) (first records : ℕ) where
     unfolding going
     over h = let e : u ≡ 0 = omega arith in rw e (rw e at inv)
 
-    -- past the last record
+    -- a step that does not go on
+    stopped : 0 < u → (t : Turn) → t ≡ stepTurn program first records r m → isGoing (t .left) ≡ false → walk t (u - 1) ≡ w
+    stopped h t made e =
+        let g : isGoing (stepTurn program first records r m .left) ≡ false = ap (λ (v : Turn). isGoing (v .left)) (sym made) ∙ e in
+        ap (λ (v : Turn). walk v (u - 1)) made
+        ∙ sym (more u (turn r m status Goes) h ∙ ap (λ (b : Bool). pick b (going program first records (u - 1) (stepTurn program first records r m)) (walk (stepTurn program first records r m) (u - 1))) g)
+        ∙ inv
+
+    -- .. past the last record
     pub past : 0 < u → records ≤ r .core .address → walk (turn r m Value Stops) (u - 1) ≡ w
     unfolding stepTurn
-    past h e =
-        let s : stepTurn program first records r m ≡ turn r m Value Stops = simp (le-leb _ _ e) in
-        sym (more u (turn r m status Goes) h ∙ ap (λ (t : Turn). pick (isGoing (t .left)) (going program first records (u - 1) t) (walk t (u - 1))) s)
-        ∙ inv
+    past h e = stopped h (turn r m Value Stops) (simp (le-leb _ _ e)) refl
 
     module _ (h : 0 < u) (s : Stepped) (k n : List ℕ) (made : turnOf s k n ≡ stepTurn program first records r m) where
       pub again : isGoing (s .left) ≡ true
@@ -60,8 +65,4 @@ module _ (program : List ℕ) (first records : ℕ) where
           ∙ inv
 
       pub ended : isGoing (s .left) ≡ false → walk (turnOf s k n) (u - 1) ≡ w
-      ended e =
-          let g : isGoing (stepTurn program first records r m .left) ≡ false = ap (λ (t : Turn). isGoing (t .left)) (sym made) ∙ e in
-          ap (λ (t : Turn). walk t (u - 1)) made
-          ∙ sym (more u (turn r m status Goes) h ∙ ap (λ (b : Bool). pick b (going program first records (u - 1) (stepTurn program first records r m)) (walk (stepTurn program first records r m) (u - 1))) g)
-          ∙ inv
+      ended e = stopped h (turnOf s k n) made e

@@ -36,7 +36,7 @@ const DEEPEST: u16 = Point::DEEPEST as u16;
 const WAITS: u16 = 512;
 
 // No address: in hand where nothing is left.
-const NOWHERE: u16 = ADDRESSES as u16;
+const NO_ADDRESS: u16 = ADDRESSES as u16;
 
 // The lowest bad point by its number, and its status.
 pub struct Found {
@@ -49,7 +49,7 @@ impl Found {
     pub const NONE: u16 = 9225;
 }
 
-// The address to look at next with its depths, `NOWHERE` with none where nothing is left; and how many wait
+// The address to look at next with its depths, `NO_ADDRESS` with none where nothing is left; and how many wait
 // besides. The end is told by the address, so that it costs nothing where the next record is in hand.
 struct Hand {
     n: usize,
@@ -92,7 +92,7 @@ fn take(masks: &mut [u16; ADDRESSES], stack: &mut [u16; ADDRESSES], n: usize) ->
     if n == 0 {
         return Hand {
             n: 0,
-            address: NOWHERE,
+            address: NO_ADDRESS,
             depths: 0,
         };
     }
@@ -229,7 +229,7 @@ fn look(program: &[u8], masks: &mut [u16; ADDRESSES], stack: &mut [u16; ADDRESSE
     };
     let first = Point::first();
     let mut hand = go(masks, stack, 0, first.address, 1);
-    while hand.address != NOWHERE {
+    while hand.address != NO_ADDRESS {
         let address = hand.address;
         let depths = hand.depths;
         let paths = paths_at(program, address);

@@ -1,7 +1,5 @@
 -- `machine::steps::go` meets its contract. The loop's invariant: what is left of the budget, from here on, comes to what all of it comes to.
 -- Assumes nothing.
-use Prim.Native.Nat.{_<_, _≤_}
-use native.Mathlib.Omega.{arith}
 use mathlib.Core.Path.{_≡_, refl, sym, _∙_}
 use mathlib.Core.Bool.{true}
 use lib.ListN.{length}

@@ -98,7 +98,7 @@ fn paths_of(program: &[u8], address: u16) -> Paths
     }
 }
 
-// Where an address leads.
+// Where an address leads. A record comes first: the compiler then goes on to it without a jump.
 pub fn paths_at(program: &[u8], address: u16) -> Paths
     ensures { λ r. ⌜ AtEach (wayAt (now (program .entry))) address r ⌝ }
 {

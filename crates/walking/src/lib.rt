@@ -50,7 +50,7 @@ impl Found {
 }
 
 // The address to look at next with its depths, `NO_ADDRESS` with none where nothing is left; and how many wait
-// besides. The end is told by the address, so that it costs nothing where the next record is in hand.
+// besides. The depths would tell the end as well: DECISIONS 74 has why the address does.
 struct Hand {
     n: usize,
     address: u16,

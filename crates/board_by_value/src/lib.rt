@@ -1,17 +1,18 @@
 // Document 01's form of the registers: a struct, with a method by value that does one step and hands the
 // state back. It is the one machine's step, over a copy of the image.
+#![tactic(auto)]
 ghost use Rattle.board_by_value.specs.Step.{Turns};
 
 use reg_image::REGISTERS;
 
 // The registers, by the image that stands for them.
-#[derive(Drop)]
+#[derive(Clone, Copy)]
 pub struct Registers {
     pub image: [u32; REGISTERS],
 }
 
 // What a step leaves, and its status or 20 or 23.
-#[derive(Drop)]
+#[derive(Clone, Copy)]
 pub struct Turned {
     pub registers: Registers,
     pub status: u8,

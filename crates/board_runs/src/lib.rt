@@ -1,4 +1,5 @@
 // The event run, in place, answering document 01's numbers.
+#![tactic(auto)]
 ghost use Rattle.std.specs.Prelude.{◌≡◌};
 ghost use Rattle.rules.specs.RunEvent as runs;
 ghost use Rattle.board_runs.specs.Run.{Runs};
@@ -7,7 +8,7 @@ ghost use Rattle.board_runs.specs.Run as spec;
 use reg_image::REGISTERS;
 
 // The last step's status, or 20, 22, 23, and how many steps were carried out.
-#[derive(Drop)]
+#[derive(Clone, Copy)]
 pub struct Ran {
     pub status: u8,
     pub steps: usize,

@@ -1,5 +1,6 @@
 // check_program IMAGE..: whether the program in each image of a program store can ever be refused, told
 // in a line for each image. A refusal names the point, its status, and the record there.
+#![tactic(auto)]
 mod print;
 mod reason;
 

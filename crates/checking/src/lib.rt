@@ -1,4 +1,5 @@
 // The program check: a stored program passes exactly when no bad point is reachable from address 0.
+#![tactic(auto)]
 ghost use Rattle.std.specs.Prelude.{◌≡◌};
 ghost use Rattle.checking.specs.Check.{Right, answer_of};
 ghost use Rattle.checking.specs.Laws.{Laws};
@@ -7,7 +8,7 @@ use points::Point;
 use status::Status;
 use walking::{Found, lowest};
 
-#[derive(Drop)]
+#[derive(Clone, Copy)]
 pub enum Verdict {
     // The program store has another length than 7,168.
     Length,
@@ -17,7 +18,7 @@ pub enum Verdict {
 }
 
 // The numbers of a verdict.
-#[derive(Drop)]
+#[derive(Clone, Copy)]
 pub struct Answer {
     pub number: u8,
     pub point: Point,

@@ -1,4 +1,5 @@
 // What a command does, decided first and then carried out in place, beneath runs, 130 and direct mode.
+#![tactic(auto)]
 ghost use Rattle.std.specs.Prelude.{◌≡◌};
 ghost use Rattle.rules.specs.Reading as reading;
 
@@ -8,7 +9,7 @@ use status::Status;
 use words::Word;
 
 // What a command leaves of the program: it goes on, a WAIT holds, or it stops.
-#[derive(Drop)]
+#[derive(Clone, Copy)]
 pub enum Left {
     Goes,
     Holds,
@@ -17,7 +18,7 @@ pub enum Left {
 
 // What is to be done. A refusal is one of these. Bytes, addresses and words lie at the same offsets in
 // every variant, so that a step takes none of them apart.
-#[derive(Drop)]
+#[derive(Clone, Copy)]
 pub enum Deed {
     Refused(Status),
     // The accumulator; accumulator and X.
@@ -54,7 +55,7 @@ pub enum Deed {
 }
 
 // What a command of direct mode, or a control command, answers.
-#[derive(Drop)]
+#[derive(Clone, Copy)]
 pub struct Obeyed {
     pub status: Status,
     pub value: Word,

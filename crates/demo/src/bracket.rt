@@ -10,7 +10,7 @@ const TOP: u64 = 320;
 
 // What is outside the board: the time since the ignition in ticks, the bracket and how low it can go, and
 // the driver's buttons.
-#[derive(Drop)]
+#[derive(Clone, Copy)]
 pub(crate) struct Outside {
     pub(crate) time: u64,
     pub(crate) position: u64,

@@ -1,5 +1,6 @@
 // A trace of the board at work, to read from the top: a tilt program is listed, checked and loaded, the
 // board is set up, and a driver tilts the bracket up and down. Nothing is read.
+#![tactic(auto)]
 mod bench;
 mod bracket;
 mod mnemonic;

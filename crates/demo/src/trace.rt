@@ -12,7 +12,7 @@ const VELOCITY: u32 = 1;
 const POSITION: u32 = 2;
 
 // What a line tells of where it changes.
-#[derive(Drop)]
+#[derive(Clone, Copy)]
 pub(crate) struct Seen {
     up: u32,
     down: u32,

@@ -2,6 +2,7 @@
 //
 // No caller checks first: a buffer of another length than nine bytes is refused with 20, and a reply
 // with a wrong checksum with 1.
+#![tactic(auto)]
 ghost use Rattle.std.specs.Prelude.{◌≡◌};
 ghost use Rattle.wire.specs.Frame.{Wrote, command_frame, reply_of};
 ghost use Rattle.display.specs.Display.{answer_of, read_of};
@@ -10,7 +11,7 @@ use wire::{Command, Reply, Written};
 use words::{Four, byte_in, word_of};
 
 // What reading a reply finds.
-#[derive(Drop)]
+#[derive(Clone, Copy)]
 pub enum Received {
     Read(Reply),
     Length,

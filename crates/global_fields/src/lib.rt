@@ -1,4 +1,5 @@
 // Commands on globals and user variables: banks 0 and 2.
+#![tactic(auto)]
 ghost use Rattle.std.specs.Prelude.{◌≡◌};
 ghost use Rattle.fields.specs.Fields as spec;
 

@@ -1,4 +1,5 @@
 // Where each point of a program leads, and which are bad: by the judges of fields that direct mode and steps ask.
+#![tactic(auto)]
 ghost use Rattle.std.specs.Prelude.{◌≡◌};
 ghost use Rattle.store.specs.Store.{record_at};
 ghost use Rattle.leading.specs.Leading.{way_at};
@@ -14,7 +15,7 @@ use store::record_at;
 use wire::Command;
 
 // Where the points of one address lead: a record is read and judged once for all depths.
-#[derive(Drop)]
+#[derive(Clone, Copy)]
 pub enum Paths {
     // Bad at every depth, with this status.
     Bad(Status),

@@ -1,4 +1,5 @@
 // One machine: every command of a program and of direct mode is decided and carried out here, in place.
+#![tactic(auto)]
 mod deeds;
 mod frame;
 mod program;
@@ -11,7 +12,7 @@ use status::Status;
 use words::Word;
 
 // What a step leaves beside the image and the store.
-#[derive(Drop)]
+#[derive(Clone, Copy)]
 pub struct Stepped {
     pub accumulator: Word,
     pub address: u32,
@@ -20,7 +21,7 @@ pub struct Stepped {
 }
 
 // What steps leave, and how many of their budget are not used.
-#[derive(Drop)]
+#[derive(Clone, Copy)]
 pub struct Gone {
     pub accumulator: Word,
     pub address: u32,
@@ -30,7 +31,7 @@ pub struct Gone {
 }
 
 // The last step's status, or done with no step, and how many steps were made.
-#[derive(Drop)]
+#[derive(Clone, Copy)]
 pub struct Made {
     pub status: Status,
     pub steps: usize,

@@ -1,6 +1,7 @@
 // Every command that document 000 prints as nine bytes, sent to the board and replied to, and every TMCL
 // program that it prints in its chapters 2, 3 and 6, loaded, checked and run with samples and ticks. The
 // script on standard input says what is done, a line for each event; each line is answered by one.
+#![tactic(auto)]
 ghost use Rattle.std.specs.Prelude.{◌≤◌, max, length};
 
 mod bench;

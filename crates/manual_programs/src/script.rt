@@ -5,7 +5,7 @@
 use wire::Command;
 use words::Word;
 
-#[derive(Drop)]
+#[derive(Clone, Copy)]
 pub(crate) enum Line {
     // A new board; the words from the third byte on are its heading.
     Heading,

@@ -2,6 +2,7 @@
 //
 // Each field is a 32-bit number, so that one out of range can be handed in: a word where it is looked
 // at by itself, an i32 where it is set in an array.
+#![tactic(auto)]
 ghost use Rattle.std.specs.Prelude.{◌≡◌};
 ghost use Rattle.pins.specs.Pins.{
   is_on,
@@ -16,7 +17,7 @@ ghost use Rattle.pins.specs.Pins.{
 use flags::Alarms;
 use words::Word;
 
-#[derive(Drop)]
+#[derive(Clone, Copy)]
 pub struct Inputs {
     pub digital_0: Word,
     pub digital_1: Word,
@@ -26,7 +27,7 @@ pub struct Inputs {
 }
 
 // The alarms, each 1 where it is on and 0 where it is off.
-#[derive(Drop)]
+#[derive(Clone, Copy)]
 pub struct Signals {
     pub eal: Word,
     pub edv: Word,

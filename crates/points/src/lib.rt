@@ -1,4 +1,5 @@
 // Points of a program, as the program check walks them.
+#![tactic(auto)]
 ghost use Rattle.std.specs.Prelude.{◌≡◌};
 ghost use Rattle.points.specs.Laws.{Laws};
 ghost use Rattle.points.specs.Points.{first, point_at};
@@ -6,14 +7,14 @@ ghost use Rattle.points.specs.Points.{first, point_at};
 use status::Status;
 
 // An address with a call depth.
-#[derive(Drop)]
+#[derive(Clone, Copy)]
 pub struct Point {
     pub address: u16,
     pub depth: u8,
 }
 
 // Where a point leads.
-#[derive(Drop)]
+#[derive(Clone, Copy)]
 pub enum Way {
     // The point is bad, with this status.
     Bad(Status),

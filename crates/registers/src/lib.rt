@@ -2,6 +2,7 @@
 //
 // Flags, addresses and the depth stand in types that hold values out of range too, since registers can
 // be handed in so.
+#![tactic(auto)]
 ghost use Rattle.std.specs.Prelude.{◌≡◌};
 ghost use Rattle.registers.specs.Laws.{Laws};
 ghost use Rattle.registers.specs.Registers.{next_address};
@@ -11,28 +12,28 @@ use order::Compared;
 use waits::Wait;
 use words::Word;
 
-#[derive(Drop)]
+#[derive(Clone, Copy)]
 pub enum Order {
     Stopped,
     Velocity,
     Position,
 }
 
-#[derive(Drop)]
+#[derive(Clone, Copy)]
 pub struct Motion {
     pub order: Order,
     pub velocity: Word,
 }
 
 // Download mode and the write address.
-#[derive(Drop)]
+#[derive(Clone, Copy)]
 pub struct Download {
     pub on: bool,
     pub address: u16,
 }
 
 // What a step changes, without the arrays.
-#[derive(Drop)]
+#[derive(Clone, Copy)]
 pub struct Core {
     pub accumulator: Word,
     pub x: Word,

@@ -1,4 +1,5 @@
 // A reply to a command: its nine bytes, and the two addresses that it is sent from and to.
+#![tactic(auto)]
 ghost use Rattle.std.specs.Prelude.{◌≡◌};
 ghost use Rattle.replying.specs.Reply as spec;
 
@@ -7,7 +8,7 @@ use wire::Reply;
 use words::Word;
 
 // The two addresses of a reply.
-#[derive(Drop)]
+#[derive(Clone, Copy)]
 pub struct Addresses {
     pub reply_address: u8,
     pub module_address: u8,

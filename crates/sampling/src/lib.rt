@@ -1,6 +1,7 @@
 // A sample: what the board's inputs, switches and alarms are found to be, and what that sets.
 //
 // Each reading is a 32-bit number, so that one out of range can be handed in.
+#![tactic(auto)]
 ghost use Rattle.std.specs.Prelude.{◌≡◌};
 ghost use Rattle.sampling.specs.Laws.{Laws};
 ghost use Rattle.sampling.specs.Sample.{sample_in_range};
@@ -10,7 +11,7 @@ use pins::{Inputs, Signals};
 mod settings;
 
 // What sets parameters: 51, 52, 55, 211, 212, 213, 220 and 221, in this order.
-#[derive(Drop)]
+#[derive(Clone, Copy)]
 pub struct Readings {
     pub ramp_position: i32,
     pub actual_position: i32,
@@ -22,7 +23,7 @@ pub struct Readings {
     pub temperature: i32,
 }
 
-#[derive(Drop)]
+#[derive(Clone, Copy)]
 pub struct Sample {
     pub readings: Readings,
     pub inputs: Inputs,

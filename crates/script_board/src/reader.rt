@@ -12,7 +12,7 @@ use reg_image::REGISTERS;
 use std::num::{wrapping_add_u64, wrapping_add_usize};
 
 // Where the reading stands between two pieces.
-#[derive(Drop)]
+#[derive(Clone, Copy)]
 struct Reading {
     // How many bytes wait at the front of the buffer.
     held: usize,
@@ -28,7 +28,7 @@ struct Reading {
 
 // What was done of a piece: where the rest begins, where the answers end, how many lines are answered,
 // and whether a line that is too long goes on.
-#[derive(Drop)]
+#[derive(Clone, Copy)]
 struct Done {
     from: usize,
     at: usize,

@@ -1,4 +1,5 @@
 // The board's side of a serial line: a command taken apart, a reply put together.
+#![tactic(auto)]
 ghost use Rattle.std.specs.Prelude.{◌≡◌};
 ghost use Rattle.wire.specs.Frame.{Wrote, reply_frame};
 ghost use Rattle.serial.specs.Serial.{taken_of};
@@ -7,7 +8,7 @@ use checksum::is_right;
 use wire::{Command, Reply, Written, command_in, put_frame};
 
 // What the board makes of a datagram.
-#[derive(Drop)]
+#[derive(Clone, Copy)]
 pub enum Taken {
     // Of another length, or to another address: no reply.
     NotOurs,

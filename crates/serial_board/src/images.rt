@@ -6,7 +6,7 @@ pub const CELLS: usize = 364;
 
 pub const PROGRAM: usize = 7168;
 
-#[derive(Drop)]
+#[derive(Clone, Copy)]
 pub enum Loaded {
     // The bytes stand at the front of the room.
     Taken,

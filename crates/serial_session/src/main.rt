@@ -2,6 +2,7 @@
 // the two image files hold: each cell that is not as on a new board, and each record that is not empty.
 // Before it comes a session with an image of five bytes, which is refused with 20: it takes nothing of the
 // line, and the five bytes are there afterwards.
+#![tactic(auto)]
 use libc::STDOUT_FILENO;
 use serial_board::{CELLS, Loaded, PROGRAM};
 use std::num::wrapping_add_usize;

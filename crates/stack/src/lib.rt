@@ -2,19 +2,20 @@
 //
 // No function requires anything of a depth: a push without room and a pop of nothing hand back what
 // they were given.
+#![tactic(auto)]
 ghost use Rattle.std.specs.Prelude.{◌≡◌, eqb, set};
 ghost use Rattle.words.specs.Word.{pick};
 ghost use Rattle.stack.specs.Laws.{Laws};
 ghost use Rattle.stack.specs.Stack.{emptied, pushed, popped};
 
 // The entries below `depth` are in use.
-#[derive(Drop)]
+#[derive(Clone, Copy)]
 pub struct Stack {
     pub entries: [u16; 8],
     pub depth: u8,
 }
 
-#[derive(Drop)]
+#[derive(Clone, Copy)]
 pub struct Popped {
     pub stack: Stack,
     pub back: u16,

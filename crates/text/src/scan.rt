@@ -11,7 +11,7 @@ ghost use Rattle.text.specs.Beneath.{grown, spelt_at};
 use words::Word;
 
 // A number by its sign and its size, and where it ends.
-#[derive(Drop)]
+#[derive(Clone, Copy)]
 pub struct Number {
     pub minus: bool,
     pub size: u64,
@@ -19,14 +19,14 @@ pub struct Number {
 }
 
 // How many bytes a word has, and whether it reads as bytes.
-#[derive(Drop)]
+#[derive(Clone, Copy)]
 pub struct Bytes {
     pub count: usize,
     pub read: bool,
 }
 
 // What the digits from a place on make, and where they end.
-#[derive(Drop)]
+#[derive(Clone, Copy)]
 struct Spelt {
     size: u64,
     next: usize,

@@ -1,6 +1,7 @@
 // The virtual board. Without arguments it plays the event script on standard input; as `serial` it is a
 // board on a serial line, standard input and output, with its stores in image files where names are
 // given.
+#![tactic(auto)]
 use libc::STDERR_FILENO;
 
 const SERIAL: [u8; 6] = *b"serial";

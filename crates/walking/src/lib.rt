@@ -2,6 +2,7 @@
 // at which it is reached, and the lowest bad point is kept.
 //
 // The depths of an address are a number with bit d for the depth d, 0 to 8.
+#![tactic(auto)]
 ghost use Rattle.std.specs.Prelude.{◌<◌, ◌≤◌, ◌≡◌};
 ghost use Rattle.leading.specs.Leading.{way_at};
 ghost use Rattle.walking.specs.Walk.{
@@ -38,7 +39,7 @@ const WAITS: u16 = 512;
 const NO_ADDRESS: u16 = ADDRESSES as u16;
 
 // The lowest bad point by its number, and its status.
-#[derive(Drop)]
+#[derive(Clone, Copy)]
 pub struct Found {
     pub number: u16,
     pub status: Status,
@@ -51,7 +52,7 @@ impl Found {
 
 // The address to look at next with its depths, `NO_ADDRESS` with none where nothing is left; and how many wait
 // besides. The depths would tell the end as well: DECISIONS 74 has why the address does.
-#[derive(Drop)]
+#[derive(Clone, Copy)]
 struct Hand {
     n: usize,
     address: u16,

@@ -1,0 +1,13 @@
+-- `text::print::put_spelt`: The loop's invariant: the bytes from here on leave what all leave.
+use Prim.Native.Nat.{ℕ, ◌-◌, ◌+◌, ◌≤◌, ◌<◌}
+use borrow.Author.Rules.{rules}
+use lib.ListN.{length, drop, get_or}
+use mathlib.Core.Path.{◌≡◌, sym, subst}
+use Rattle.text.proofs.Putting.{Left, all_left, one-put, none_left, same_left, next, no-next}
+use Rattle.text.proofs.print.put_spelt.Given as goal
+
+abbrev pub invariant-loop-i : goal.invariant-loop-i
+invariant-loop-i l = (length l.text ≡ 20) × (l.from ≤ l.i) × Left l.out l.end (drop l.i l.text) l.initial.out l.at (drop l.from l.text)
+
+abbrev pub decreases-loop-i : goal.decreases-loop-i
+decreases-loop-i l = 20 - l.i

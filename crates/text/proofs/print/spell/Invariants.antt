@@ -1,0 +1,15 @@
+-- `text::print::spell`: The loop's invariant: the digits that are left, before those that stand, are all.
+use Prim.Native.Nat.{ℕ, ◌≤◌}
+use Rattle.text.specs.Put.{digits_before, decimal}
+use borrow.Author.Rules.{rules}
+use lib.ListN.{length, drop, length-set}
+use mathlib.Core.Path.{◌≡◌, sym, ap, ◌∙◌}
+use native.Mathlib.Omega.{arith}
+use Rattle.text.proofs.Putting.{no-next, digit-more, last-digit}
+use Rattle.text.proofs.print.spell.Given as goal
+
+abbrev pub invariant-loop-at : goal.invariant-loop-at
+invariant-loop-at l = (l.at ≤ 20) × (length l.text ≡ 20) × (digits_before l.at l.rest (drop l.at l.text) ≡ decimal l.n)
+
+abbrev pub decreases-loop-at : goal.decreases-loop-at
+decreases-loop-at l = l.at

@@ -3,6 +3,7 @@
 // No function requires anything of a depth: a push without room and a pop of nothing hand back what
 // they were given.
 #![tactic(auto)]
+
 ghost use Rattle.std.specs.Prelude.{◌≡◌, eqb, set};
 ghost use Rattle.words.specs.Word.{pick};
 ghost use Rattle.stack.specs.Laws.{Laws};

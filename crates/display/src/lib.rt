@@ -3,6 +3,7 @@
 // No caller checks first: a buffer of another length than nine bytes is refused with 20, and a reply
 // with a wrong checksum with 1.
 #![tactic(auto)]
+
 ghost use Rattle.std.specs.Prelude.{◌≡◌};
 ghost use Rattle.wire.specs.Frame.{Wrote, command_frame, reply_of};
 ghost use Rattle.display.specs.Display.{answer_of, read_of};

@@ -1,5 +1,6 @@
 // Points of a program, as the program check walks them.
 #![tactic(auto)]
+
 ghost use Rattle.std.specs.Prelude.{◌≡◌};
 ghost use Rattle.points.specs.Laws.{Laws};
 ghost use Rattle.points.specs.Points.{first, point_at};

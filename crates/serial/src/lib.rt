@@ -1,5 +1,6 @@
 // The board's side of a serial line: a command taken apart, a reply put together.
 #![tactic(auto)]
+
 ghost use Rattle.std.specs.Prelude.{◌≡◌};
 ghost use Rattle.wire.specs.Frame.{Wrote, reply_frame};
 ghost use Rattle.serial.specs.Serial.{taken_of};

@@ -1,5 +1,6 @@
 // CALC's and CALCX's types 0 to 8: what is made of the accumulator and a second word.
 #![tactic(auto)]
+
 ghost use Rattle.std.specs.Prelude.{◌≡◌};
 ghost use Rattle.dividing.specs.Divide.{answer_of};
 ghost use Rattle.calculating.specs.Calculate.{calculated};

@@ -1,0 +1,25 @@
+-- `sheet::cell_of`: : the table's cells count the rows that have one.
+use native.Mathlib.Nat.{zero-add}
+use mathlib.Core.Path.{ap, ◌∙◌}
+use lib.ListN.{replicate}
+use borrow.Author.Rules.{rules}
+use Rattle.sheet.specs.Line.{lines}
+use Rattle.sheet.specs.Rows.{parameters, rows, cell_of}
+use Rattle.sheet.specs.Sheet.{axis, globals, user_row, rwe_rows, rw_rows, r_rows}
+use Rattle.sheet.specs.declared.table.Line.{Line}
+use Rattle.sheet.proofs.Lines.{line-cell}
+use Rattle.sheet.proofs.Cells.{user-cell, past-cell}
+use Rattle.sheet.proofs.table.cell_of.Goals as goal
+
+pub returns-then-place-lt47 : goal.returns-then-place-lt47
+unfolding lines rows parameters axis globals rwe_rows rw_rows r_rows
+returns-then-place-lt47 c =
+    let i = c.args.place in
+    c.wide.ensures ∙ ap (λ (l : Line). l.6) c.line_at-line.ensures
+    ∙ line-cell 0 parameters (replicate 56 user_row) i c.if-place-lt47.true ∙ zero-add (cell_of rows i)
+
+pub returns-then-place-lt103 : goal.returns-then-place-lt103
+returns-then-place-lt103 c = user-cell c.args.place c.if-place-lt47.false c.if-place-lt103.true
+
+pub returns-else-place-lt103 : goal.returns-else-place-lt103
+returns-else-place-lt103 c = past-cell c.args.place c.if-place-lt103.false

@@ -3,6 +3,7 @@
 // Each field is a 32-bit number, so that one out of range can be handed in: a word where it is looked
 // at by itself, an i32 where it is set in an array.
 #![tactic(auto)]
+
 ghost use Rattle.std.specs.Prelude.{◌≡◌};
 ghost use Rattle.pins.specs.Pins.{
   is_on,

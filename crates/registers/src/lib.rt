@@ -3,6 +3,7 @@
 // Flags, addresses and the depth stand in types that hold values out of range too, since registers can
 // be handed in so.
 #![tactic(auto)]
+
 ghost use Rattle.std.specs.Prelude.{◌≡◌};
 ghost use Rattle.registers.specs.Laws.{Laws};
 ghost use Rattle.registers.specs.Registers.{next_address};

@@ -1,6 +1,7 @@
 // The board's registers, as every rule speaks of them: what an image of 137 numbers stands for. How
 // power-up leaves them and when they are in range stands in specs/.
 #![tactic(auto)]
+
 use registers::{Core, Download};
 
 #[derive(Clone, Copy)]

@@ -1,5 +1,6 @@
 // 137 sets cells and working values to their defaults; these are the cells.
 #![tactic(auto)]
+
 ghost use Rattle.std.specs.Prelude.{◌≡◌};
 ghost use Rattle.sheet.specs.Rows.{rows};
 ghost use Rattle.resetting.specs.Laws.{Laws};

@@ -2,6 +2,7 @@
 //
 // Each reading is a 32-bit number, so that one out of range can be handed in.
 #![tactic(auto)]
+
 ghost use Rattle.std.specs.Prelude.{◌≡◌};
 ghost use Rattle.sampling.specs.Laws.{Laws};
 ghost use Rattle.sampling.specs.Sample.{sample_in_range};

@@ -1,0 +1,23 @@
+-- `resetting::reset_cells`: The loop's invariant: all before the place are reset.
+use Prim.Native.Nat.{ℕ, ◌-◌, ◌≤◌}
+use mathlib.Core.Path.{◌≡◌, ap, subst, ◌∙◌}
+use native.Mathlib.Omega.{arith}
+use borrow.Author.Rules.{rules}
+use lib.ListN.{length}
+use Rattle.sheet.specs.Rows.{rows}
+use Rattle.resetting.specs.Resetting.{reset_cells}
+use Rattle.resetting.proofs.Ones.{no_cells, one_cell, cells_length}
+use Rattle.resetting.proofs.reset_cells.Goals as goal
+
+pub loop-place-init : goal.loop-place-init
+loop-place-init c = (omega arith, no_cells rows _)
+
+pub loop-place-preserved : goal.loop-place-preserved
+loop-place-preserved c =
+    (omega arith, one_cell rows c.loop-place.place _ c.reset_cell.ensures c.loop-place.invariant.1)
+
+pub returns : goal.returns
+returns c =
+    let e : c.loop-place.place ≡ 103 = omega arith in
+    let a = c.args in
+    subst (λ (n : ℕ). c.loop-place.store ≡ reset_cells rows n a.store.now) e c.loop-place.invariant.1

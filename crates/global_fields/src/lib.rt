@@ -1,5 +1,6 @@
 // Commands on globals and user variables: banks 0 and 2.
 #![tactic(auto)]
+
 ghost use Rattle.std.specs.Prelude.{◌≡◌};
 ghost use Rattle.fields.specs.Fields as spec;
 

@@ -2,6 +2,7 @@
 // fields' own. The machine and the program check have a dispatch of their own by the command's number, whose
 // arms ask the judges of its fields, and are held to it.
 #![tactic(auto)]
+
 ghost use Rattle.std.specs.Prelude.{◌≡◌};
 ghost use Rattle.judge.specs.Judge.{is_flow, is_reading};
 

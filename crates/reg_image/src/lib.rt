@@ -4,6 +4,7 @@
 // them at once, by the names of `at`, and `board_events`, whose power-up clears them all. A contract speaks of
 // the registers that the image stands for (`specs/Image.antt`), so that no other caller sees a place.
 #![tactic(auto)]
+
 pub mod at;
 mod lists;
 mod place;

@@ -1,5 +1,6 @@
 // A reply to a command: its nine bytes, and the two addresses that it is sent from and to.
 #![tactic(auto)]
+
 ghost use Rattle.std.specs.Prelude.{◌≡◌};
 ghost use Rattle.replying.specs.Reply as spec;
 

@@ -1,0 +1,9 @@
+-- `axis_fields::sap`.
+use Rattle.fields.specs.Fields.{sap}
+use borrow.Author.Rules.{rules}
+use Rattle.axis_fields.proofs.sap.Goals as goal
+
+pub returns : goal.returns
+unfolding sap
+returns c =
+    simp (c.by_bytes.ensures, c.writable.ensures, c.settable-value.ensures, c.axis_place.ensures)

@@ -1,0 +1,8 @@
+
+use Rattle.reg_image.specs.Image.{registers_of}
+use borrow.Author.Rules.{rules}
+use Rattle.reg_image.proofs.scalars.accumulator.Goals as goal
+
+pub returns : goal.returns
+unfolding registers_of
+returns c = c.of_bits.ensures

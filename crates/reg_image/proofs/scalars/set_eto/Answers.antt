@@ -1,0 +1,15 @@
+
+use Rattle.reg_image.proofs.Laws.{eto-set}
+use mathlib.Core.Path.{refl}
+use Rattle.reg_image.proofs.Places.{shaped-set}
+use borrow.Author.Rules.{rules}
+use Rattle.reg_image.proofs.scalars.set_eto.Goals as goal
+
+pub returns : goal.returns
+returns c =
+    let x = c.args in
+    let e = c.put.ensures in
+    record {
+      makes = simp (e.puts, eto-set x.image.now e.size x.number);
+      stays = rw e.puts (shaped-set x.image.now 3 x.number refl);
+    }

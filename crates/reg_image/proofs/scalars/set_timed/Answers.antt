@@ -1,0 +1,13 @@
+
+use Rattle.reg_image.proofs.Laws.{timed-set}
+use Rattle.reg_image.proofs.Places.{shaped-set}
+use borrow.Author.Rules.{rules}
+use Rattle.reg_image.proofs.scalars.set_timed.Goals as goal
+
+pub returns : goal.returns
+returns c =
+    let l = c.args.image.now in
+    let v = c.bit_number.result in
+    let f = c.bit_number.ensures in
+    let e = c.put.ensures in
+    record { makes = simp (e.puts, timed-set l e.size v, f.0); stays = rw e.puts (shaped-set l 11 v f.1) }

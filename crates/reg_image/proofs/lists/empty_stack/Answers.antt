@@ -16,7 +16,7 @@ pub returns : goal.returns
 returns c =
     let l = c.args.image.now in
     let e = c.put.ensures in
-    let d : Leaves (in_core (with_depth 0)) l c.put.new.0 =
+    let d : Leaves (in_core (with_depth 0)) l c.put.new.image =
     record {
       makes = ap registers_of e.puts ∙ depth-set l e.size 0;
       stays = rw e.puts (shaped-behind l 25 0 (omega arith));

@@ -1,5 +1,6 @@
 // Where each point of a program leads, and which are bad: by the judges of fields that direct mode and steps ask.
 #![tactic(auto)]
+
 ghost use Rattle.std.specs.Prelude.{◌≡◌};
 ghost use Rattle.store.specs.Store.{record_at};
 ghost use Rattle.leading.specs.Leading.{way_at};

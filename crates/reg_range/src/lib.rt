@@ -6,6 +6,7 @@
 // neighbours at once. For that a place without such a test among them gets a wider one (`image[at::AXIS + 13]`,
 // `image[at::AXIS + 25]`, `image[at::AXIS + 2]`), and its own beside.
 #![tactic(auto)]
+
 ghost use Rattle.std.specs.Prelude.{◌<◌, ◌≤◌, ◌≡◌, ◌&&◌, leb, get_or, pos};
 ghost use Rattle.words.specs.Word.{of_bits};
 ghost use Rattle.order.specs.Order.{in_range};

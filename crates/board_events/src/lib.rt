@@ -3,6 +3,7 @@
 // Each answers document 01's number. An event that does not answer 100 leaves the image as it was; one
 // that does writes what it changes, at its places, and nothing else.
 #![tactic(auto)]
+
 ghost use Rattle.std.specs.Prelude.{◌≡◌};
 ghost use Rattle.rules.specs.Events.{with_tick, with_sample};
 ghost use Rattle.reg_image.specs.Image.{registers_of, Leaves};

@@ -1,5 +1,6 @@
 // What a command does, decided first and then carried out in place, beneath runs, 130 and direct mode.
 #![tactic(auto)]
+
 ghost use Rattle.std.specs.Prelude.{◌≡◌};
 ghost use Rattle.rules.specs.Reading as reading;
 

@@ -3,6 +3,7 @@
 //
 // The depths of an address are a number with bit d for the depth d, 0 to 8.
 #![tactic(auto)]
+
 ghost use Rattle.std.specs.Prelude.{◌<◌, ◌≤◌, ◌≡◌};
 ghost use Rattle.leading.specs.Leading.{way_at};
 ghost use Rattle.walking.specs.Walk.{

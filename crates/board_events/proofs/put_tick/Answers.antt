@@ -1,0 +1,19 @@
+-- `board_events::put_tick`.
+use mathlib.Core.Path.{◌∙◌}
+use Rattle.reg_image.specs.Image.{registers_of}
+use Rattle.board_events.proofs.Parts.{ticked-so}
+use borrow.Author.Rules.{rules}
+use Rattle.board_events.proofs.put_tick.Goals as goal
+
+pub returns : goal.returns
+returns c =
+    let k = c.set_count.ensures in
+    let l = c.args.image.now in
+    let t = c.ticked-later in
+    record {
+      makes =
+          k.makes
+          ∙ ticked-so (registers_of l) t.result
+          (t.ensures ∙ simp (c.timed.ensures, c.count.ensures, c.armed.ensures));
+      stays = k.stays;
+    }

@@ -1,0 +1,7 @@
+-- `walking::lowest`.
+use borrow.Author.Rules.{rules}
+use Rattle.walking.proofs.Scan.{blank}
+use Rattle.walking.proofs.lowest.Goals as goal
+
+pub look-requires : goal.look-requires
+look-requires c = blank

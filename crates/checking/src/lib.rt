@@ -1,5 +1,6 @@
 // The program check: a stored program passes exactly when no bad point is reachable from address 0.
 #![tactic(auto)]
+
 ghost use Rattle.std.specs.Prelude.{◌≡◌};
 ghost use Rattle.checking.specs.Check.{Right, answer_of};
 ghost use Rattle.checking.specs.Laws.{Laws};

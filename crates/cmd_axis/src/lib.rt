@@ -1,5 +1,6 @@
 // What the commands on the axis decide, once their fields are judged.
 #![tactic(auto)]
+
 ghost use Rattle.std.specs.Prelude.{◌<◌, ◌≤◌, ◌≡◌, eqb, neg_ℤ, ◌+ℤ◌};
 ghost use Rattle.words.specs.Word.{pick, word};
 ghost use Rattle.status.specs.declared.Status.TheVariants.{Value};

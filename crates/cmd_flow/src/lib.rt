@@ -1,5 +1,6 @@
 // What the commands that only a program has decide: JC, JA, CSUB, RSUB and WAIT.
 #![tactic(auto)]
+
 ghost use Rattle.std.specs.Prelude.{◌≡◌};
 ghost use Rattle.board.specs.declared.Registers.{Registers};
 ghost use Rattle.wire.specs.declared.Command.{Command};

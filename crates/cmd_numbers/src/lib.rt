@@ -1,5 +1,6 @@
 // What CALC, COMP, CALCX and CLE decide.
 #![tactic(auto)]
+
 ghost use Rattle.board.specs.declared.Registers.{Registers};
 ghost use Rattle.reg_image.specs.Image.{registers_of};
 ghost use Rattle.cmd_turns.specs.Decides.{Always, From};

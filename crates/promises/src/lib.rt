@@ -1,5 +1,6 @@
 // What is relied on of the board's events, above all that they are made of.
 #![tactic(auto)]
+
 ghost use Rattle.promises.specs.Commands.{Commands};
 ghost use Rattle.promises.specs.Examples.{Examples};
 ghost use Rattle.promises.specs.Laws.{Laws};

@@ -1,0 +1,9 @@
+-- `cmd_axis::locked`.
+use Rattle.settings.specs.Settings.{locked}
+use Rattle.settings.proofs.Users.{lock-place}
+use borrow.Author.Rules.{rules}
+use Rattle.cmd_axis.proofs.locked.Goals as goal
+
+pub returns : goal.returns
+unfolding locked
+returns c = simp (c.equals.ensures, c.value.ensures, lock-place)

@@ -1,6 +1,7 @@
 // The control commands and the download in place, over an image of the registers: what each is refused for,
 // what it answers and what it does. 130 is a step of the machine, and 255 a power-up.
 #![tactic(auto)]
+
 ghost use Rattle.std.specs.Prelude.{◌≡◌};
 ghost use Rattle.rules.specs.Controlling as controlling;
 ghost use Rattle.reg_image.specs.Image.{registers_of};

@@ -1,5 +1,6 @@
 // What the commands on globals, user variables and ports decide, once their fields are judged.
 #![tactic(auto)]
+
 ghost use Rattle.std.specs.Prelude.{◌+◌, ◌<◌, ◌≡◌, eqb, pos};
 ghost use Rattle.words.specs.Word.{pick, word};
 ghost use Rattle.order.specs.Order.{same_w};

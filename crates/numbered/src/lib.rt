@@ -1,6 +1,7 @@
 // The program check and the display's side, each answering document 01's numbers, for callers that have
 // no struct and no enum of ours.
 #![tactic(auto)]
+
 mod host;
 mod verdicts;
 

@@ -1,5 +1,6 @@
 // Document 01's proved table, and worked examples of commands, steps and runs.
 #![tactic(auto)]
+
 ghost use Rattle.table.specs.Examples.{Examples};
 ghost use Rattle.table.specs.Table.{Table};
 

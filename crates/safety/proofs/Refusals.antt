@@ -77,18 +77,18 @@ module _ (c : Command) where
   right-listed : (limit v : ℤ) → c.number ≡ 1 → On (right_within limit v)
   unfolding right_within by_value
   right-listed limit v e =
-      picked On (within_limit limit v) (turn v) (effect.Refused Value) (λ _. Listed.carried-out) (Listed.by_value (simp e))
+      picked On (within_limit limit v) (turn v) (effect.Refused Value) (λ _. Listed.carried-out) (Listed.by-value (simp e))
 
   left-listed : (limit v : ℤ) → c.number ≡ 2 → On (left_within limit v)
   unfolding left_within by_value
   left-listed limit v e =
-      picked On (within_limit limit v) (turn (neg_ℤ v)) (effect.Refused Value) (λ _. Listed.carried-out) (Listed.by_value (simp e))
+      picked On (within_limit limit v) (turn (neg_ℤ v)) (effect.Refused Value) (λ _. Listed.carried-out) (Listed.by-value (simp e))
 
   by-listed : (a v : ℤ) → by_value c ≡ true → On (move_by a v)
   unfolding move_by
   by-listed a v b =
       let z = a +ℤ v in
-      picked On (is_word z) (effect.Move (word z)) (effect.Refused Value) (λ _. Listed.carried-out) (Listed.by_value b)
+      picked On (is_word z) (effect.Move (word z)) (effect.Refused Value) (λ _. Listed.carried-out) (Listed.by-value b)
 
   kind-one : c.number ≡ 4 → leb c.kind 1 ≡ true → eqb c.kind 0 ≡ false → by_value c ≡ true
   unfolding by_value
@@ -119,7 +119,7 @@ module _ (c : Command) where
       → On (take place w values)
   unfolding take
   take-listed place w values b lock =
-      picked On (settable place w.v) (assign place w values) (effect.Refused Value) (λ _. assign-listed place w values lock) (Listed.by_value b)
+      picked On (settable place w.v) (assign place w values) (effect.Refused Value) (λ _. assign-listed place w values lock) (Listed.by-value b)
 
   keep-listed : (place : ℕ) (values : List ℤ) → by_lock c ≡ true → On (keep place values)
   unfolding keep
@@ -222,7 +222,7 @@ module _ (c : Command) (accumulator x : Word) where
   into-listed e true d =
       let a = calculated c.kind accumulator.v x.v x.v in
       picked (On c) (eqb a.status 100) (effect.Numbers (word a.value) x) (effect.Refused Value) (λ _. Listed.carried-out)
-      (Listed.by_value (divides-listed e d))
+      (Listed.by-value (divides-listed e d))
   into-listed e false d =
       into-done (calculated c.kind accumulator.v x.v x.v)
       (calculated-done c.kind accumulator.v x.v x.v (λ t. absurd (true≢false (sym t ∙ d))))

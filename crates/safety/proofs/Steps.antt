@@ -81,7 +81,7 @@ plain n h =
 -- ---- what is listed is known, and no jump, call or return is on the list
 known : (r : Command) {t : Status} → Listed r t → is_unknown t ≡ false
 known r Listed.carried-out = refl
-known r (Listed.by_value b) = refl
+known r (Listed.by-value b) = refl
 known r (Listed.by-lock b) = refl
 
 in_turns : (n : ℕ) → turns n ≡ true → (20 < n) × (n < 25)
@@ -124,7 +124,7 @@ module _ (r : Command) (h : turns r.number ≡ true) where
 
   turned : {t : Status} → Listed r t → t ≡ Done
   turned Listed.carried-out = refl
-  turned (Listed.by_value b) = absurd (true≢false (sym b ∙ no_value))
+  turned (Listed.by-value b) = absurd (true≢false (sym b ∙ no_value))
   turned (Listed.by-lock b) = absurd (true≢false (sym b ∙ no-lock))
 
 module _ (program : List ℕ) (safe : Safe (way_at program)) (x : State) (s : Standing program x) where
@@ -172,7 +172,7 @@ module _ (program : List ℕ) (safe : Safe (way_at program)) (x : State) (s : St
       (returns program safe a c.depth x.entries s q, Listed.carried-out)
 
   wait-moved : r.number ≡ 27 → (w : Waited) → (is_refused w ≡ true → by_value r ≡ true) → Moved (flow.flow (after_wait w c) x.entries)
-  wait-moved q Refused b = (on-from 27 q refl refl refl, Listed.by_value (b refl))
+  wait-moved q Refused b = (on-from 27 q refl refl refl, Listed.by-value (b refl))
   wait-moved q Passed b = (on-from 27 q refl refl refl, Listed.carried-out)
   wait-moved q TimedOut b = (on-from 27 q refl refl refl, Listed.carried-out)
   wait-moved q (Holding w) b = (s, Listed.carried-out)

@@ -26,5 +26,5 @@ by_lock r =
 -- what a step of a passed program may answer
 pub data Listed (r : Command) : Status → Type 0 where
   carried-out : Listed r Done
-  by_value : by_value r ≡ true → Listed r Value
+  by-value : by_value r ≡ true → Listed r Value
   by-lock : by_lock r ≡ true → Listed r Locked

@@ -1,5 +1,6 @@
 // One machine: every command of a program and of direct mode is decided and carried out here, in place.
 #![tactic(auto)]
+
 mod deeds;
 mod frame;
 mod program;

@@ -1,0 +1,27 @@
+-- `machine::steps::go`: The loop's invariant: what is left of the budget, from here on, comes to what all of it comes to.
+use mathlib.Core.Path.{◌≡◌, refl, sym, ◌∙◌}
+use mathlib.Core.Bool.{true}
+use lib.ListN.{length}
+use borrow.Author.Tests.{not-true, not-false}
+use Rattle.status.specs.declared.Status.TheVariants.{Done}
+use Rattle.cmd_turns.specs.declared.Left.TheVariants.{Goes}
+use Rattle.cmd_turns.specs.Turn.{turn}
+use Rattle.cmd_turns.specs.Deed.{seen}
+use Rattle.reg_image.specs.Image.{registers_of, shaped}
+use Rattle.machine.specs.Applied.{Kept}
+use Rattle.machine.specs.Steps.{going}
+use Rattle.machine.proofs.Keeps.{same, both}
+use Rattle.machine.proofs.Goings.{over, past, again, ended}
+use borrow.Author.Rules.{rules}
+use Rattle.machine.proofs.steps.go.Given as goal
+
+abbrev pub invariant-loop-unused : goal.invariant-loop-unused
+invariant-loop-unused l =
+    (going l.program l.first l.records l.unused (turn (seen l.accumulator l.there (registers_of l.image)) l.store l.status Goes)
+    ≡ going l.program l.first l.records l.budget (turn (seen l.initial.accumulator l.address (registers_of l.initial.image)) l.initial.store Done Goes))
+    × (shaped l.initial.image ≡ true → shaped l.image ≡ true)
+    × (length l.store ≡ length l.initial.store)
+    × Kept l.initial.image l.image
+
+abbrev pub decreases-loop-unused : goal.decreases-loop-unused
+decreases-loop-unused l = l.unused

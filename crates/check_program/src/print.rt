@@ -1,14 +1,14 @@
 // Words and numbers on standard output.
-use libc::STDOUT_FILENO;
 
-pub(crate) fn text(t: &[u8]) {
-    io::write_all(STDOUT_FILENO, t);
+// Where standard output takes no more, the words are lost and the program goes on.
+pub(crate) fn text(rt: &impl Print, t: &[u8]) {
+    let _ = rt.write_all(t);
 }
 
 // A number behind the words that say what it is.
-pub(crate) fn labelled(words: &[u8], n: u64) {
-    text(words);
-    io::print_decimal(STDOUT_FILENO, n);
+pub(crate) fn labelled(rt: &impl Print, words: &[u8], n: u64) {
+    text(rt, words);
+    let _ = rt.print(n);
 }
 
 fn wide(b: u8) -> usize {

@@ -1,36 +1,36 @@
 // Words, numbers and frames on standard output.
-use libc::STDOUT_FILENO;
 use words::Word;
 
-pub(crate) fn text(t: &[u8]) {
-    io::write_all(STDOUT_FILENO, t);
+// Where standard output takes no more, the words are lost and the demonstration goes on.
+pub(crate) fn text(rt: &impl Print, t: &[u8]) {
+    let _ = rt.write_all(t);
 }
 
-pub(crate) fn number(n: u64) {
-    io::print_decimal(STDOUT_FILENO, n);
+pub(crate) fn number(rt: &impl Print, n: u64) {
+    let _ = rt.print(n);
 }
 
 // A word in decimal: its bits, or a minus and what they lack to 2^32.
-pub(crate) fn signed(v: i32) {
+pub(crate) fn signed(rt: &impl Print, v: i32) {
     let bits = words::bits_of(Word { v: v }) as u64;
     if bits < 2147483648 {
-        number(bits);
+        number(rt, bits);
     } else {
-        text(b"-");
-        number(4294967296 - bits);
+        text(rt, b"-");
+        number(rt, 4294967296 - bits);
     }
 }
 
 // A number behind the words that say what it is.
-pub(crate) fn labelled(words: &[u8], n: u64) {
-    text(words);
-    number(n);
+pub(crate) fn labelled(rt: &impl Print, words: &[u8], n: u64) {
+    text(rt, words);
+    number(rt, n);
 }
 
 // A word behind the words that say what it is.
-pub(crate) fn labelled_word(words: &[u8], v: i32) {
-    text(words);
-    signed(v);
+pub(crate) fn labelled_word(rt: &impl Print, words: &[u8], v: i32) {
+    text(rt, words);
+    signed(rt, v);
 }
 
 fn wide(b: u8) -> usize {

@@ -1,6 +1,5 @@
 // The stores: arrays, and how many of its bytes each store has at present.
-ghost use Rattle.std.specs.Prelude.{◌≤◌};
-ghost use Rattle.io.specs.Counts.{IsPrefixLen};
+ghost use Rattle.std.specs.Prelude.{◌≤◌, length};
 
 use words::Word;
 
@@ -12,7 +11,7 @@ pub(crate) const REPLY: usize = 9;
 
 // How many bytes of a slice are lent: as many as are asked for, where it has them.
 pub(crate) fn within(n: usize, s: &[u8]) -> usize
-    ensures { IsPrefixLen result s.now }
+    ensures { result ≤ length s.now }
 {
     if n < s.len() { n } else { s.len() }
 }

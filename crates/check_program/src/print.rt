@@ -20,12 +20,10 @@ const DIGITS: [u8; 16] = *b"0123456789ABCDEF";
 // A record as two digits for each byte, single spaces between.
 pub(crate) fn spelled(record: &[u8; 7]) -> [u8; 20] {
     let mut out = [b' '; 20];
-    let mut i = 0;
-    while i < 7 {
+    for i in 0..7 {
         let b = wide(record[i]);
         out[i * 3] = DIGITS[b / 16 % 16];
         out[i * 3 + 1] = DIGITS[b % 16];
-        i += 1;
     }
     out
 }

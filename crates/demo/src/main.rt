@@ -183,8 +183,7 @@ fn changes(
     old_cells: &[u8; 364],
 ) -> u64 {
     let mut count = 0u64;
-    let mut i = 0;
-    while i < 364 {
+    for i in 0..364 {
         if cells[i] != old_cells[i] {
             count = wrapping_add_u64(count, 1);
         }
@@ -193,7 +192,6 @@ fn changes(
                 count = wrapping_add_u64(count, 1);
             }
         }
-        i += 1;
     }
     count
 }

@@ -42,12 +42,10 @@ const DIGITS: [u8; 16] = *b"0123456789ABCDEF";
 // A frame as two digits for each byte, single spaces between.
 pub(crate) fn spelled(frame: &[u8; 9]) -> [u8; 26] {
     let mut out = [b' '; 26];
-    let mut i = 0;
-    while i < 9 {
+    for i in 0..9 {
         let b = wide(frame[i]);
         out[i * 3] = DIGITS[b / 16 % 16];
         out[i * 3 + 1] = DIGITS[b % 16];
-        i += 1;
     }
     out
 }

@@ -4,11 +4,7 @@ use reg_image::REGISTERS;
 use wire::Command;
 
 fn clear(memory: &mut [u8]) {
-    let mut i = 0;
-    while i < memory.len() {
-        memory[i] = 0;
-        i += 1;
-    }
+    memory.fill(0);
 }
 
 // A board with no program and default cells, powered up.

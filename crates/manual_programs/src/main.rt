@@ -22,14 +22,13 @@ const MOST: u64 = 65536;
 fn line_end(script: &[u8], from: usize) -> usize
     ensures { (from ≤ result) × (result ≤ max from (length script.now)) }
 {
-    let mut end = from;
-    while end < script.len() {
-        if script[end] == b'\n' {
-            break;
-        }
-        end += 1;
+    if script.len() <= from {
+        return from;
     }
-    end
+    match script[from..].iter().position(|b| *b == b'\n') {
+        Some(ahead) => from + ahead,
+        None => script.len(),
+    }
 }
 
 // A line that leaves the board as it is.

@@ -44,14 +44,13 @@ const ROOM: usize = 49000;
 fn line_end(piece: &[u8], from: usize) -> usize
     ensures { (from ≤ result) × (result ≤ max from (length piece.now)) }
 {
-    let mut end = from;
-    while end < piece.len() {
-        if piece[end] == b'\n' {
-            break;
-        }
-        end += 1;
+    if piece.len() <= from {
+        return from;
     }
-    end
+    match piece[from..].iter().position(|b| *b == b'\n') {
+        Some(ahead) => from + ahead,
+        None => piece.len(),
+    }
 }
 
 // The answer to a line, or to the end of one whose begin is dropped.
@@ -151,15 +150,12 @@ fn written(rt: &impl Print, stderr: &impl Print, out: &[u8], at: usize) -> bool 
 
 // Bytes from a place up to another moved to the front. Answers how many there are.
 fn moved(input: &mut [u8; 65536], from: usize, to: usize) -> usize {
-    let mut i = from;
-    while i < to {
-        if 65536 <= i {
-            break;
-        }
-        input[i - from] = input[i];
-        i += 1;
+    let end = to.min(65536);
+    if end <= from {
+        return 0;
     }
-    i - from
+    input.copy_within(from..end, 0);
+    end - from
 }
 
 fn ended(number: u64) -> Reading {

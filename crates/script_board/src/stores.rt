@@ -18,13 +18,11 @@ pub(crate) fn within(n: usize, s: &[u8]) -> usize
 
 // Bytes 0 from a place up to another.
 pub(crate) fn clear(store: &mut [u8; 8192], from: usize, to: usize) {
-    let mut i = from;
-    while i < to {
+    for i in from..to {
         if 8192 <= i {
             break;
         }
         store[i] = 0;
-        i += 1;
     }
 }
 

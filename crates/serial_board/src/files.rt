@@ -74,10 +74,8 @@ fn byte_of(name: &[u8], i: usize) -> u8 {
 // A file's name with the addition. Answers its length; a name that is too long fills the path, which
 // no file's name does.
 fn new_name(name: &[u8], path: &mut [u8; 4096]) -> usize {
-    let mut i = 0;
-    while i < 4096 {
+    for i in 0..4096 {
         path[i] = byte_of(name, i);
-        i += 1;
     }
     if 4092 < name.len() {
         return 4096;
@@ -95,16 +93,10 @@ fn put<F: Write + OpenFile + Drop>(mut file: F, bytes: &[u8]) -> io::Result<()> 
 fn last_word(name: &[u8]) -> usize
     ensures { result ≤ length name.now }
 {
-    let mut at = 0;
-    let mut i = 0;
-    while i < name.len() {
-        let slash = name[i] == b'/';
-        i += 1;
-        if slash {
-            at = i;
-        }
+    match name.iter().rposition(|b| *b == b'/') {
+        Some(slash) => slash + 1,
+        None => 0,
     }
-    at
 }
 
 fn open_folder<R: Files>(rt: &R, name: &[u8]) -> io::Result<R::File> {

@@ -65,27 +65,15 @@ pub fn load(
 }
 
 fn same(a: &[u8], b: &[u8]) -> bool {
-    let mut i = 0;
-    while i < a.len() {
-        if b.len() <= i {
-            return false;
-        }
-        if a[i] != b[i] {
-            return false;
-        }
-        i += 1;
-    }
-    true
+    b.starts_with(a)
 }
 
 pub(crate) fn copy(from: &[u8], to: &mut [u8]) {
-    let mut i = 0;
-    while i < to.len() {
+    for i in 0..to.len() {
         if from.len() <= i {
             break;
         }
         to[i] = from[i];
-        i += 1;
     }
 }
 

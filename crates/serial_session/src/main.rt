@@ -10,15 +10,13 @@ use std::rt::Files;
 
 // Whether two images have the same bytes from a place up to another.
 fn is_same(a: &[u8; 8192], b: &[u8; 8192], from: usize, to: usize) -> bool {
-    let mut i = from;
-    while i < to {
+    for i in from..to {
         if 8192 <= i {
             break;
         }
         if a[i] != b[i] {
             return false;
         }
-        i += 1;
     }
     true
 }
@@ -57,14 +55,12 @@ fn put_parts(
 ) -> usize {
     let mut end = at;
     let mut from = 0;
-    let mut number = 0;
-    while number < count {
+    for number in 0..count {
         let to = wrapping_add_usize(from, width);
         if !is_same(image, fresh, from, to) {
             end = put_part(out, end, name, number, image, from, to);
         }
         from = to;
-        number += 1;
     }
     end
 }

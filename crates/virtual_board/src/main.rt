@@ -17,17 +17,7 @@ fn usage(stderr: &impl Print) {
 }
 
 fn is_serial(word: &[u8]) -> bool {
-    if word.len() != 6 {
-        return false;
-    }
-    let mut i = 0;
-    while i < 6 {
-        if word[i] != SERIAL[i] {
-            return false;
-        }
-        i += 1;
-    }
-    true
+    word == SERIAL.as_slice()
 }
 
 // How many arguments there are, the program's own name among them.

@@ -1,13 +1,18 @@
 // check_program IMAGE..: whether the program in each image of a program store can ever be refused, told
 // in a line for each image. A refusal names the point, its status, and the record there.
 #![tactic(auto)]
+
 mod print;
 mod reason;
 
 use print::{labelled, text};
+use std::env::FillError;
+use std::io::Read;
+use std::rt::{Env, Files};
+use std::{fs, io};
 
 // One byte more than a program store has, so that a longer image is seen to be one.
-const MOST: usize = 7169;
+const MOST: u64 = 7169;
 
 // The record at an address: zeros where the image ends before it.
 fn record_at(image: &[u8], address: u16) -> [u8; 7] {
@@ -27,93 +32,101 @@ fn record_at(image: &[u8], address: u16) -> [u8; 7] {
 }
 
 // Why the point is bad, and the record that stands there.
-fn explain(image: &[u8], address: u16, status: u8) {
+fn explain(rt: &impl Print, image: &[u8], address: u16, status: u8) {
     if address == 1024 {
-        text(b"the program runs behind the last record\n");
+        text(rt, b"the program runs behind the last record\n");
         return;
     }
     let record = record_at(image, address);
-    reason::tell(status, &record);
-    text(b"; record ");
-    text(&print::spelled(&record));
-    text(b"\n");
+    reason::tell(rt, status, &record);
+    text(rt, b"; record ");
+    text(rt, &print::spelled(&record));
+    text(rt, b"\n");
 }
 
-fn tell(image: &[u8]) {
+fn tell(rt: &impl Print, image: &[u8]) {
     let checked = numbered::check(image);
     let status = checked.status;
     let address = checked.address;
     let depth = checked.depth;
     if status == 100 {
-        text(b"passed\n");
+        text(rt, b"passed\n");
         return;
     }
     if status == 20 {
-        text(b"20: has another length than 7168 bytes\n");
+        text(rt, b"20: has another length than 7168 bytes\n");
         return;
     }
-    labelled(b"refused at address ", address as u64);
-    labelled(b", depth ", depth as u64);
-    labelled(b", status ", status as u64);
-    text(b": ");
-    explain(image, address, status);
+    labelled(rt, b"refused at address ", address as u64);
+    labelled(rt, b", depth ", depth as u64);
+    labelled(rt, b", status ", status as u64);
+    text(rt, b": ");
+    explain(rt, image, address, status);
 }
 
-// Whether a file of which so many bytes were read ended there. A short count says so only together
-// with a further read of nothing: a read that failed gave a short count too.
-fn has_ended(fd: i32, n: usize) -> bool {
-    if n == MOST {
-        return true;
+// A file that goes on behind so many bytes is no image, so no more of it is read.
+fn read_image<F: Read + Drop>(rt: &(impl Print + AllocGlobal), file: F) {
+    let mut image = Vec::new(rt.alloc());
+    match file.take(MOST).read_to_end(&mut image) {
+        Ok(_) => tell(rt, image.as_slice()),
+        Err(error) => reason::unread(rt, error.raw_os_error()),
     }
-    let mut one = [0u8; 1];
-    libc::read(fd, &mut one) == 0
 }
 
-fn read_image(fd: i32) {
-    let mut image = [0u8; MOST];
-    let n = io::read_full(fd, &mut image);
-    if !has_ended(fd, n) {
-        reason::unread(os::errno());
-        return;
+// std opens a file by a text, so a name that is none has no file here.
+fn open<R: Files>(rt: &R, name: &[u8]) -> io::Result<R::File> {
+    match str::from_utf8(name) {
+        Ok(path) => fs::open(rt, path),
+        Err(_) => Err(io::Error::from(io::ErrorKind::InvalidFilename)),
     }
-    tell(&image[..n]);
 }
 
-fn open_image(name: &[u8]) {
-    let fd = os::open_read(name);
-    if fd < 0 {
-        reason::unread(os::errno());
-        return;
+fn open_image(rt: &(impl Files + Print + AllocGlobal), name: &[u8]) {
+    match open(rt, name) {
+        Ok(file) => read_image(rt, file),
+        Err(error) => reason::unread(rt, error.raw_os_error()),
     }
-    read_image(fd);
-    libc::close(fd);
 }
 
 // The image that an argument names. Its line begins with the name where there are more images.
-fn answer(argument: usize, named: bool) {
-    let mut name = io::buffer();
-    let n = os::arg(argument, &mut name);
-    let error = os::errno();
+fn answer(rt: &(impl Env + Files + Print + AllocGlobal), argument: usize, named: bool) {
+    let mut name = [0u8; 4096];
+    let given = rt.arg(argument, &mut name);
+    let n = match given {
+        Ok(length) => length,
+        Err(_) => 0,
+    };
     if named {
-        text(&name[..n]);
-        text(b": ");
+        text(rt, &name[..n]);
+        text(rt, b": ");
     }
-    if error != 0 {
-        reason::unread(error);
-        return;
+    match given {
+        Ok(_) => open_image(rt, &name[..n]),
+        Err(FillError::TooLong) => reason::unread(rt, Some(reason::NAME_TOO_LONG)),
+        Err(FillError::NotPresent) => reason::unread(rt, None),
     }
-    open_image(&name[..n]);
 }
 
-fn main() {
-    let count = os::arg_count();
+// How many arguments there are, the program's own name among them.
+fn argument_count(rt: &impl Env) -> usize {
+    for i in 0..usize::MAX {
+        if let Err(FillError::NotPresent) = rt.arg(i, &mut []) {
+            return i;
+        }
+    }
+    usize::MAX
+}
+
+fn main(rt: HostRuntime) {
+    let count = argument_count(&rt);
     if count < 2 {
-        text(b"usage: check_program IMAGE.. (each a program store of 7168 bytes)\n");
+        text(
+            &rt,
+            b"usage: check_program IMAGE.. (each a program store of 7168 bytes)\n",
+        );
         return;
     }
-    let mut argument = 1;
-    while argument < count {
-        answer(argument, 2 < count);
-        argument += 1;
+    for argument in 1..count {
+        answer(&rt, argument, 2 < count);
     }
 }

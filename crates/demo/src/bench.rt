@@ -9,22 +9,23 @@ use reg_image::REGISTERS;
 use std::num::wrapping_add_u64;
 use wire::Command;
 
-fn received(reply: &[u8; 9]) {
-    text(b", reply ");
-    text(&spelled(reply));
+fn received(rt: &impl Print, reply: &[u8; 9]) {
+    text(rt, b", reply ");
+    text(rt, &spelled(reply));
     match display::read_reply(reply) {
         Received::Read(r) => {
-            labelled(b": status ", r.status as u64);
+            labelled(rt, b": status ", r.status as u64);
             let value = r.value;
-            labelled_word(b", value ", value.v);
+            labelled_word(rt, b", value ", value.v);
         }
-        Received::Length => text(b": of another length"),
-        Received::Checksum => text(b": damaged"),
+        Received::Length => text(rt, b": of another length"),
+        Received::Checksum => text(rt, b": damaged"),
     }
 }
 
 // A command as the display sends it to address 1, told only where it is to be. Answers the status.
 fn exchange(
+    rt: &impl Print,
     image: &mut [u32; REGISTERS],
     program: &mut [u8; 7168],
     cells: &mut [u8; 364],
@@ -36,18 +37,19 @@ fn exchange(
     display::build_command(&mut frame, 1, sent);
     let status = board_datagrams::datagram(image, program, cells, &mut reply, &frame);
     if is_told {
-        text(b"  ");
-        crate::mnemonic::write(sent);
-        text(b": ");
-        text(&spelled(&frame));
-        received(&reply);
-        text(b"\n");
+        text(rt, b"  ");
+        crate::mnemonic::write(rt, sent);
+        text(rt, b": ");
+        text(rt, &spelled(&frame));
+        received(rt, &reply);
+        text(rt, b"\n");
     }
     status
 }
 
 // A command of so many numbers, told with its reply.
 pub(crate) fn send(
+    rt: &impl Print,
     image: &mut [u32; REGISTERS],
     program: &mut [u8; 7168],
     cells: &mut [u8; 364],
@@ -57,6 +59,7 @@ pub(crate) fn send(
     value: i32,
 ) {
     exchange(
+        rt,
         image,
         program,
         cells,
@@ -68,6 +71,7 @@ pub(crate) fn send(
 // The records from a place to an end, sent in download mode. Answers how many were put in program
 // memory.
 fn store_all(
+    rt: &impl Print,
     image: &mut [u32; REGISTERS],
     program: &mut [u8; 7168],
     cells: &mut [u8; 364],
@@ -76,20 +80,19 @@ fn store_all(
     end: usize,
 ) -> u64 {
     let mut stored = 0u64;
-    let mut at = from;
-    while at < end {
+    for at in from..end {
         let record = store::record_at(listed, at);
-        let status = exchange(image, program, cells, record, false);
+        let status = exchange(rt, image, program, cells, record, false);
         if status == 101 {
             stored = wrapping_add_u64(stored, 1);
         }
-        at += 1;
     }
     stored
 }
 
 // The listed program, through download mode: the first and the last record are told.
 pub(crate) fn load(
+    rt: &impl Print,
     image: &mut [u32; REGISTERS],
     program: &mut [u8; 7168],
     cells: &mut [u8; 364],
@@ -100,13 +103,23 @@ pub(crate) fn load(
         return;
     }
     let last = count - 1;
-    send(image, program, cells, names::START_DOWNLOAD, 0, 0, 0);
-    exchange(image, program, cells, store::record_at(listed, 0), true);
-    let stored = store_all(image, program, cells, listed, 1, last);
-    labelled(b"  .. and so on: ", stored);
-    text(b" records more with status 101, put in program memory\n");
-    exchange(image, program, cells, store::record_at(listed, last), true);
-    send(image, program, cells, names::END_DOWNLOAD, 0, 0, 0);
+    send(rt, image, program, cells, names::START_DOWNLOAD, 0, 0, 0);
+    exchange(rt, image, program, cells, store::record_at(listed, 0), true);
+    let stored = store_all(rt, image, program, cells, listed, 1, last);
+    labelled(rt, b"  .. and so on: ", stored);
+    text(
+        rt,
+        b" records more with status 101, put in program memory\n",
+    );
+    exchange(
+        rt,
+        image,
+        program,
+        cells,
+        store::record_at(listed, last),
+        true,
+    );
+    send(rt, image, program, cells, names::END_DOWNLOAD, 0, 0, 0);
 }
 
 // Whether a line is due: something changed, the ignition was just turned on, or the bracket is on its
@@ -126,6 +139,7 @@ fn is_due(time: u64, before: Seen, after: Seen, has_moved: bool) -> bool {
 
 // 10 ms: the bracket moves, the board measures and runs, and the tick comes.
 fn turn(
+    rt: &impl Print,
     image: &mut [u32; REGISTERS],
     program: &[u8; 7168],
     cells: &mut [u8; 364],
@@ -139,7 +153,7 @@ fn turn(
     board_runs::run(image, program, cells, 1000);
     let has_moved = after.position != outside.position;
     if is_due(outside.time, before, trace::look(image), has_moved) {
-        trace::line(outside.time, before, image, program);
+        trace::line(rt, outside.time, before, image, program);
     }
     board_events::tick(image);
     after.time = wrapping_add_u64(outside.time, 1);
@@ -148,6 +162,7 @@ fn turn(
 
 // So many ticks with the buttons held as they are.
 pub(crate) fn pass(
+    rt: &impl Print,
     image: &mut [u32; REGISTERS],
     program: &[u8; 7168],
     cells: &mut [u8; 364],
@@ -155,20 +170,24 @@ pub(crate) fn pass(
     ticks: usize,
 ) -> Outside {
     let mut after = outside;
-    let mut left = ticks;
-    while 0 < left {
-        after = turn(image, program, cells, after);
-        left -= 1;
+    for _ in 0..ticks {
+        after = turn(rt, image, program, cells, after);
     }
     after
 }
 
 // Ignition off and on: the working values go, the cells stay.
-pub(crate) fn ignite(image: &mut [u32; REGISTERS], cells: &[u8; 364]) {
+pub(crate) fn ignite(rt: &impl Print, image: &mut [u32; REGISTERS], cells: &[u8; 364]) {
     board_events::power_up(image, cells);
     if reg_image::running(image) {
-        text(b"Ignition on: global 77 is 1, so the program runs by itself.\n");
+        text(
+            rt,
+            b"Ignition on: global 77 is 1, so the program runs by itself.\n",
+        );
     } else {
-        text(b"Ignition on: global 77 is 0, so the program does not run.\n");
+        text(
+            rt,
+            b"Ignition on: global 77 is 0, so the program does not run.\n",
+        );
     }
 }

@@ -18,6 +18,7 @@ pub(crate) fn command(number: u8, kind: u8, motor: u8, value: i32) -> Command {
 
 // A record of so many numbers: command, type, motor or bank, value.
 fn list(
+    rt: &impl Print,
     store: &mut [u8; 7168],
     at: usize,
     number: u8,
@@ -29,19 +30,20 @@ fn list(
     let record = command(number, kind, motor, value);
     store::put_record(store, at, record);
     if at < 10 {
-        text(b" ");
+        text(rt, b" ");
     }
-    labelled(b"  ", at as u64);
-    text(b"  ");
-    crate::mnemonic::write(record);
-    text(b"  // ");
-    text(why);
-    text(b"\n");
+    labelled(rt, b"  ", at as u64);
+    text(rt, b"  ");
+    crate::mnemonic::write(rt, record);
+    text(rt, b"  // ");
+    text(rt, why);
+    text(rt, b"\n");
 }
 
 // The driver's two buttons, looked at every 10 ms.
-fn list_buttons(store: &mut [u8; 7168]) {
+fn list_buttons(rt: &impl Print, store: &mut [u8; 7168]) {
     list(
+        rt,
         store,
         0,
         names::SAP,
@@ -50,8 +52,9 @@ fn list_buttons(store: &mut [u8; 7168]) {
         1500,
         b"acceleration, for this ignition only",
     );
-    list(store, 1, names::WAIT, names::TICKS, 0, 1, b"10 ms");
+    list(rt, store, 1, names::WAIT, names::TICKS, 0, 1, b"10 ms");
     list(
+        rt,
         store,
         2,
         names::GIO,
@@ -60,9 +63,10 @@ fn list_buttons(store: &mut [u8; 7168]) {
         0,
         b"the button tilt up, digital input 0",
     );
-    list(store, 3, names::COMP, 0, 0, 1, b"1 is pressed");
-    list(store, 4, names::JC, names::EQ, 0, 9, b"pressed");
+    list(rt, store, 3, names::COMP, 0, 0, 1, b"1 is pressed");
+    list(rt, store, 4, names::JC, names::EQ, 0, 9, b"pressed");
     list(
+        rt,
         store,
         5,
         names::GIO,
@@ -72,6 +76,7 @@ fn list_buttons(store: &mut [u8; 7168]) {
         b"the button tilt down, digital input 1",
     );
     list(
+        rt,
         store,
         6,
         names::JC,
@@ -83,16 +88,17 @@ fn list_buttons(store: &mut [u8; 7168]) {
 }
 
 // The calls, behind which the buttons are looked at again.
-fn list_calls(store: &mut [u8; 7168]) {
-    list(store, 7, names::CSUB, 0, 0, 19, b"call tilt down");
-    list(store, 8, names::JA, 0, 0, 1, b"look again");
-    list(store, 9, names::CSUB, 0, 0, 11, b"call tilt up");
-    list(store, 10, names::JA, 0, 0, 1, b"look again");
+fn list_calls(rt: &impl Print, store: &mut [u8; 7168]) {
+    list(rt, store, 7, names::CSUB, 0, 0, 19, b"call tilt down");
+    list(rt, store, 8, names::JA, 0, 0, 1, b"look again");
+    list(rt, store, 9, names::CSUB, 0, 0, 11, b"call tilt up");
+    list(rt, store, 10, names::JA, 0, 0, 1, b"look again");
 }
 
 // To the right limit switch.
-fn list_up(store: &mut [u8; 7168]) {
+fn list_up(rt: &impl Print, store: &mut [u8; 7168]) {
     list(
+        rt,
         store,
         11,
         names::GAP,
@@ -102,6 +108,7 @@ fn list_up(store: &mut [u8; 7168]) {
         b"tilt up: the right limit switch",
     );
     list(
+        rt,
         store,
         12,
         names::JC,
@@ -110,8 +117,9 @@ fn list_up(store: &mut [u8; 7168]) {
         17,
         b"there already: do not move",
     );
-    list(store, 13, names::ROR, 0, 0, 800, b"turn right");
+    list(rt, store, 13, names::ROR, 0, 0, 800, b"turn right");
     list(
+        rt,
         store,
         14,
         names::WAIT,
@@ -121,6 +129,7 @@ fn list_up(store: &mut [u8; 7168]) {
         b"until a limit switch is on, 100 ticks at most",
     );
     list(
+        rt,
         store,
         15,
         names::JC,
@@ -129,8 +138,9 @@ fn list_up(store: &mut [u8; 7168]) {
         24,
         b"none in time: stuck",
     );
-    list(store, 16, names::MST, 0, 0, 0, b"stop");
+    list(rt, store, 16, names::MST, 0, 0, 0, b"stop");
     list(
+        rt,
         store,
         17,
         names::SIO,
@@ -139,12 +149,13 @@ fn list_up(store: &mut [u8; 7168]) {
         1,
         b"output 0 on: the bracket is up",
     );
-    list(store, 18, names::RSUB, 0, 0, 0, b"return");
+    list(rt, store, 18, names::RSUB, 0, 0, 0, b"return");
 }
 
 // To position 0.
-fn list_down(store: &mut [u8; 7168]) {
+fn list_down(rt: &impl Print, store: &mut [u8; 7168]) {
     list(
+        rt,
         store,
         19,
         names::SIO,
@@ -153,8 +164,9 @@ fn list_down(store: &mut [u8; 7168]) {
         0,
         b"tilt down: output 0 off",
     );
-    list(store, 20, names::MVP, 0, 0, 0, b"go to position 0");
+    list(rt, store, 20, names::MVP, 0, 0, 0, b"go to position 0");
     list(
+        rt,
         store,
         21,
         names::WAIT,
@@ -164,6 +176,7 @@ fn list_down(store: &mut [u8; 7168]) {
         b"until it is reached, 30 ticks at most",
     );
     list(
+        rt,
         store,
         22,
         names::JC,
@@ -172,13 +185,14 @@ fn list_down(store: &mut [u8; 7168]) {
         24,
         b"not reached in time",
     );
-    list(store, 23, names::RSUB, 0, 0, 0, b"return");
+    list(rt, store, 23, names::RSUB, 0, 0, 0, b"return");
 }
 
 // Where the bracket is stuck on its way down.
-fn list_stuck(store: &mut [u8; 7168]) {
-    list(store, 24, names::MST, 0, 0, 0, b"stuck: stop");
+fn list_stuck(rt: &impl Print, store: &mut [u8; 7168]) {
+    list(rt, store, 24, names::MST, 0, 0, 0, b"stuck: stop");
     list(
+        rt,
         store,
         25,
         names::SIO,
@@ -187,30 +201,48 @@ fn list_stuck(store: &mut [u8; 7168]) {
         1,
         b"output 1 on: the bracket is stuck",
     );
-    list(store, 26, names::WAIT, names::TICKS, 0, 20, b"200 ms");
-    list(store, 27, names::SIO, 1, names::OUTPUTS, 0, b"output 1 off");
-    list(store, 28, names::CLE, 1, 0, 0, b"the timeout is dealt with");
-    list(store, 29, names::RSUB, 0, 0, 0, b"return");
+    list(rt, store, 26, names::WAIT, names::TICKS, 0, 20, b"200 ms");
+    list(
+        rt,
+        store,
+        27,
+        names::SIO,
+        1,
+        names::OUTPUTS,
+        0,
+        b"output 1 off",
+    );
+    list(
+        rt,
+        store,
+        28,
+        names::CLE,
+        1,
+        0,
+        0,
+        b"the timeout is dealt with",
+    );
+    list(rt, store, 29, names::RSUB, 0, 0, 0, b"return");
 }
 
-pub(crate) fn list_all(store: &mut [u8; 7168]) {
-    list_buttons(store);
-    list_calls(store);
-    list_up(store);
-    list_down(store);
-    list_stuck(store);
+pub(crate) fn list_all(rt: &impl Print, store: &mut [u8; 7168]) {
+    list_buttons(rt, store);
+    list_calls(rt, store);
+    list_up(rt, store);
+    list_down(rt, store);
+    list_stuck(rt, store);
 }
 
 // What the check says of a store.
-pub(crate) fn check(words: &[u8], store: &[u8; 7168]) {
+pub(crate) fn check(rt: &impl Print, words: &[u8], store: &[u8; 7168]) {
     let checked = numbered::check(store);
-    text(words);
+    text(rt, words);
     if checked.status == 100 {
-        text(b"passed\n");
+        text(rt, b"passed\n");
         return;
     }
-    labelled(b"refused at address ", checked.address as u64);
-    labelled(b", depth ", checked.depth as u64);
-    labelled(b", status ", checked.status as u64);
-    text(b"\n");
+    labelled(rt, b"refused at address ", checked.address as u64);
+    labelled(rt, b", depth ", checked.depth as u64);
+    labelled(rt, b", status ", checked.status as u64);
+    text(rt, b"\n");
 }

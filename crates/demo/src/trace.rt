@@ -81,92 +81,113 @@ pub(crate) fn is_same(a: Seen, b: Seen) -> bool {
 }
 
 // The words for a number that was 0 or 1 and is the other now.
-fn turned(was: u32, is: u32, on: &[u8], off: &[u8]) {
+fn turned(rt: &impl Print, was: u32, is: u32, on: &[u8], off: &[u8]) {
     if was == is {
         return;
     }
     if is == 0 {
-        text(off);
+        text(rt, off);
     } else {
-        text(on);
+        text(rt, on);
     }
 }
 
-fn ordered(was: u32, is: u32) {
+fn ordered(rt: &impl Print, was: u32, is: u32) {
     if was == is {
         return;
     }
     match is {
-        VELOCITY => text(b"the motor turns; "),
-        POSITION => text(b"the motor goes to a position; "),
-        _ => text(b"the motor stops; "),
+        VELOCITY => text(rt, b"the motor turns; "),
+        POSITION => text(rt, b"the motor goes to a position; "),
+        _ => text(rt, b"the motor stops; "),
     }
 }
 
-fn happened(a: Seen, b: Seen) {
-    turned(a.up, b.up, b"tilt up pressed; ", b"tilt up released; ");
+fn happened(rt: &impl Print, a: Seen, b: Seen) {
+    turned(rt, a.up, b.up, b"tilt up pressed; ", b"tilt up released; ");
     turned(
+        rt,
         a.down,
         b.down,
         b"tilt down pressed; ",
         b"tilt down released; ",
     );
     turned(
+        rt,
         a.right,
         b.right,
         b"right limit switch on; ",
         b"right limit switch off; ",
     );
-    turned(a.reached, b.reached, b"position reached; ", b"");
+    turned(rt, a.reached, b.reached, b"position reached; ", b"");
     turned(
+        rt,
         a.eto,
         b.eto,
         b"ETO set: the wait ran out; ",
         b"ETO cleared; ",
     );
-    ordered(a.order, b.order);
-    turned(a.output_0, b.output_0, b"output 0 on; ", b"output 0 off; ");
-    turned(a.output_1, b.output_1, b"output 1 on; ", b"output 1 off; ");
+    ordered(rt, a.order, b.order);
+    turned(
+        rt,
+        a.output_0,
+        b.output_0,
+        b"output 0 on; ",
+        b"output 0 off; ",
+    );
+    turned(
+        rt,
+        a.output_1,
+        b.output_1,
+        b"output 1 on; ",
+        b"output 1 off; ",
+    );
 }
 
-fn order(image: &[u32; REGISTERS]) {
+fn order(rt: &impl Print, image: &[u32; REGISTERS]) {
     let given = reg_image::motion_order(image);
     let velocity = reg_image::velocity(image);
     let target = parameter(image, names::TARGET_POSITION);
     match given {
-        Order::Velocity => labelled_word(b", order velocity ", velocity.v),
-        Order::Position => labelled_word(b", order position ", target.v),
-        Order::Stopped => text(b", order stopped"),
+        Order::Velocity => labelled_word(rt, b", order velocity ", velocity.v),
+        Order::Position => labelled_word(rt, b", order position ", target.v),
+        Order::Stopped => text(rt, b", order stopped"),
     }
 }
 
-fn outputs(image: &[u32; REGISTERS]) {
-    labelled(b", outputs ", reg_image::output(image, 0) as u64);
-    number(reg_image::output(image, 1) as u64);
-    number(reg_image::output(image, 2) as u64);
-    number(reg_image::output(image, 3) as u64);
+fn outputs(rt: &impl Print, image: &[u32; REGISTERS]) {
+    labelled(rt, b", outputs ", reg_image::output(image, 0) as u64);
+    number(rt, reg_image::output(image, 1) as u64);
+    number(rt, reg_image::output(image, 2) as u64);
+    number(rt, reg_image::output(image, 3) as u64);
 }
 
 // Where the program stands, and what of a wait is left.
-fn place(image: &[u32; REGISTERS], program: &[u8; 7168]) {
+fn place(rt: &impl Print, image: &[u32; REGISTERS], program: &[u8; 7168]) {
     let address = reg_image::address(image);
-    labelled(b"; at ", address as u64);
-    text(b" ");
-    crate::mnemonic::write(store::record_at(program, address as usize));
+    labelled(rt, b"; at ", address as u64);
+    text(rt, b" ");
+    crate::mnemonic::write(rt, store::record_at(program, address as usize));
     if reg_image::armed(image) {
-        labelled(b", ticks left ", reg_image::count(image) as u64);
+        labelled(rt, b", ticks left ", reg_image::count(image) as u64);
     }
-    labelled(b", depth ", reg_image::depth(image) as u64);
+    labelled(rt, b", depth ", reg_image::depth(image) as u64);
 }
 
-pub(crate) fn line(time: u64, before: Seen, image: &[u32; REGISTERS], program: &[u8; 7168]) {
-    labelled(b"  tick ", time);
-    text(b": ");
-    happened(before, look(image));
+pub(crate) fn line(
+    rt: &impl Print,
+    time: u64,
+    before: Seen,
+    image: &[u32; REGISTERS],
+    program: &[u8; 7168],
+) {
+    labelled(rt, b"  tick ", time);
+    text(rt, b": ");
+    happened(rt, before, look(image));
     let position = parameter(image, names::ACTUAL_POSITION);
-    labelled_word(b"position ", position.v);
-    order(image);
-    outputs(image);
-    place(image, program);
-    text(b"\n");
+    labelled_word(rt, b"position ", position.v);
+    order(rt, image);
+    outputs(rt, image);
+    place(rt, image, program);
+    text(rt, b"\n");
 }

@@ -4,11 +4,7 @@ use reg_image::REGISTERS;
 use wire::Command;
 
 fn clear(memory: &mut [u8]) {
-    let mut i = 0;
-    while i < memory.len() {
-        memory[i] = 0;
-        i += 1;
-    }
+    memory.fill(0);
 }
 
 // A board with no program and default cells, powered up.
@@ -19,15 +15,16 @@ pub(crate) fn fresh(image: &mut [u32; REGISTERS], program: &mut [u8], cells: &mu
 }
 
 // A command as the display sends it to address 1, and the line that tells of it begun.
-pub(crate) fn sent(line: &[u8], words_at: usize, command: Command) -> [u8; 9] {
+pub(crate) fn sent(rt: &impl Print, line: &[u8], words_at: usize, command: Command) -> [u8; 9] {
     let mut frame = [0u8; 9];
     display::build_command(&mut frame, 1, command);
-    crate::print::command(line, words_at, &frame);
+    crate::print::command(rt, line, words_at, &frame);
     frame
 }
 
 // A datagram, and the reply to it.
 pub(crate) fn tell(
+    rt: &impl Print,
     image: &mut [u32; REGISTERS],
     program: &mut [u8],
     cells: &mut [u8],
@@ -35,26 +32,30 @@ pub(crate) fn tell(
     frame: &[u8],
 ) {
     let status = board_datagrams::datagram(image, program, cells, reply, frame);
-    crate::print::answer(status, reply);
+    crate::print::answer(rt, status, reply);
 }
 
-pub(crate) fn run(image: &mut [u32; REGISTERS], program: &[u8], cells: &mut [u8], budget: usize) {
+pub(crate) fn run(
+    rt: &impl Print,
+    image: &mut [u32; REGISTERS],
+    program: &[u8],
+    cells: &mut [u8],
+    budget: usize,
+) {
     let ran = board_runs::run(image, program, cells, budget);
-    crate::print::ran(ran.steps, ran.status, image);
+    crate::print::ran(rt, ran.steps, ran.status, image);
 }
 
-pub(crate) fn measure(image: &mut [u32; REGISTERS], fields: &[i32; 16]) {
+pub(crate) fn measure(rt: &impl Print, image: &mut [u32; REGISTERS], fields: &[i32; 16]) {
     let status = board_events::sample(image, fields);
-    crate::print::measured(status, image);
+    crate::print::measured(rt, status, image);
 }
 
 // So many ticks, and the last one's status.
-pub(crate) fn ticks(image: &mut [u32; REGISTERS], count: usize) {
+pub(crate) fn ticks(rt: &impl Print, image: &mut [u32; REGISTERS], count: usize) {
     let mut status = 100;
-    let mut done = 0;
-    while done < count {
+    for _ in 0..count {
         status = board_events::tick(image);
-        done += 1;
     }
-    crate::print::ticked(count, status, image);
+    crate::print::ticked(rt, count, status, image);
 }

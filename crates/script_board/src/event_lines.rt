@@ -265,10 +265,8 @@ fn put_received(bytes: &[u8; 64], count: usize, out: &mut [u8; 65536], at: usize
     let mut fields = [0i32; 5];
     let status = received(bytes, count, &mut fields);
     let mut end = put_status(out, at, b'a', status);
-    let mut i = 0;
-    while i < 5 {
+    for i in 0..5 {
         end = text::put_signed(out, end, fields[i]);
-        i += 1;
     }
     end
 }

@@ -3,6 +3,7 @@
 // The board is lent in parts: the registers as an image, and three stores of 8,192 bytes, program,
 // parameters and reply buffer, with the lengths that they have at present.
 #![tactic(auto)]
+
 mod answers;
 mod event_lines;
 mod looking;

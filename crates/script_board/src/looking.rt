@@ -54,10 +54,8 @@ fn mix(s: &[u8]) -> u64 {
 // The mix with the bytes from a place on.
 fn mix_on(start: u64, s: &[u8], from: usize) -> u64 {
     let mut h = start % FULL;
-    let mut i = from;
-    while i < s.len() {
+    for i in from..s.len() {
         h = (h * FACTOR + wide(s[i])) % FULL;
-        i += 1;
     }
     h
 }
@@ -79,11 +77,9 @@ fn put_register(number: u32, is_count: bool, out: &mut [u8; 65536], at: usize) -
 
 fn put_registers(image: &[u32; REGISTERS], out: &mut [u8; 65536], at: usize) -> usize {
     let mut end = at;
-    let mut i = 0;
-    while i < 137 {
+    for i in 0..137 {
         let place = image_place(i);
         end = put_register(image[place], i == COUNT, out, end);
-        i += 1;
     }
     end
 }

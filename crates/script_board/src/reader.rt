@@ -7,8 +7,8 @@ ghost use Rattle.std.specs.Prelude.{◌≤◌, max, length};
 
 use crate::stores::within;
 use crate::{answers, setting};
-use libc::{STDIN_FILENO, STDOUT_FILENO};
 use reg_image::REGISTERS;
+use std::io::Read;
 use std::num::{wrapping_add_u64, wrapping_add_usize};
 
 // Where the reading stands between two pieces.
@@ -44,14 +44,13 @@ const ROOM: usize = 49000;
 fn line_end(piece: &[u8], from: usize) -> usize
     ensures { (from ≤ result) × (result ≤ max from (length piece.now)) }
 {
-    let mut end = from;
-    while end < piece.len() {
-        if piece[end] == b'\n' {
-            break;
-        }
-        end += 1;
+    if piece.len() <= from {
+        return from;
     }
-    end
+    match piece[from..].iter().position(|b| *b == b'\n') {
+        Some(ahead) => from + ahead,
+        None => piece.len(),
+    }
 }
 
 // The answer to a line, or to the end of one whose begin is dropped.
@@ -138,26 +137,25 @@ fn lines_within(
 }
 
 // The answers that end at a place, written out. Where they cannot be, the script ends.
-fn written(out: &[u8], at: usize) -> bool {
+fn written(rt: &impl Print, stderr: &impl Print, out: &[u8], at: usize) -> bool {
     let n = within(at, out);
-    if io::write_all(STDOUT_FILENO, &out[..n]) {
-        return true;
+    match rt.write_all(&out[..n]) {
+        Ok(()) => true,
+        Err(error) => {
+            failing::tell(stderr, b"standard output", &error);
+            false
+        }
     }
-    os::fail(b"standard output");
-    false
 }
 
 // Bytes from a place up to another moved to the front. Answers how many there are.
 fn moved(input: &mut [u8; 65536], from: usize, to: usize) -> usize {
-    let mut i = from;
-    while i < to {
-        if 65536 <= i {
-            break;
-        }
-        input[i - from] = input[i];
-        i += 1;
+    let end = to.min(65536);
+    if end <= from {
+        return 0;
     }
-    i - from
+    input.copy_within(from..end, 0);
+    end - from
 }
 
 fn ended(number: u64) -> Reading {
@@ -195,23 +193,23 @@ fn kept(input: &mut [u8; 65536], held: usize, done: Done) -> Reading {
 }
 
 // Behind what waits, the next bytes of the script. At its end it is closed.
-fn more(input: &mut [u8], before: Reading) -> Reading {
+fn more(rt: &impl Input, stderr: &impl Print, input: &mut [u8], before: Reading) -> Reading {
     if before.full {
         return before;
     }
     let held = within(before.held, input);
-    let got = libc::read(STDIN_FILENO, &mut input[held..]);
-    if got < 0 {
-        os::fail(b"standard input");
-        return ended(before.number);
-    }
-    let n = io::count(got, &input[held..]);
-    Reading {
-        held: wrapping_add_usize(held, n),
-        number: before.number,
-        long: before.long,
-        full: false,
-        open: 0 < n,
+    match rt.reader().read(&mut input[held..]) {
+        Ok(n) => Reading {
+            held: wrapping_add_usize(held, n),
+            number: before.number,
+            long: before.long,
+            full: false,
+            open: 0 < n,
+        },
+        Err(error) => {
+            failing::tell(stderr, b"standard input", &error);
+            ended(before.number)
+        }
     }
 }
 
@@ -249,6 +247,8 @@ fn last(
 
 // One piece of the script, answered.
 fn turn(
+    rt: &(impl Input + Print),
+    stderr: &impl Print,
     image: &mut [u32; REGISTERS],
     program: &mut [u8; 8192],
     cells: &mut [u8; 8192],
@@ -258,22 +258,24 @@ fn turn(
     before: Reading,
     out: &mut [u8; 65536],
 ) -> Reading {
-    let now = more(input, before);
+    let now = more(rt, stderr, input, before);
     if !now.open {
         let at = last(image, program, cells, reply, lengths, input, now, out);
-        written(out, at);
+        written(rt, stderr, out, at);
         return ended(now.number);
     }
     let done = lines_within(image, program, cells, reply, lengths, input, now, out);
-    if !written(out, done.at) {
+    if !written(rt, stderr, out, done.at) {
         return ended(done.number);
     }
     kept(input, now.held, done)
 }
 
-// A proved loop has to end, and nothing says that a script does. So the loop counts its turns down,
-// from a number that no run uses up.
+// A proved loop has to end, and nothing says that a script does. So the loop counts its turns, up to a
+// number that no run uses up.
 fn turns(
+    rt: &(impl Input + Print),
+    stderr: &impl Print,
     image: &mut [u32; REGISTERS],
     program: &mut [u8; 8192],
     cells: &mut [u8; 8192],
@@ -282,7 +284,6 @@ fn turns(
     input: &mut [u8; 65536],
     out: &mut [u8; 65536],
 ) {
-    let mut left = u64::MAX;
     let mut reading = Reading {
         held: 0,
         number: 0,
@@ -290,17 +291,18 @@ fn turns(
         full: false,
         open: true,
     };
-    while 0 < left {
+    for _ in 0..u64::MAX {
         if !reading.open {
             break;
         }
-        reading = turn(image, program, cells, reply, lengths, input, reading, out);
-        left -= 1;
+        reading = turn(
+            rt, stderr, image, program, cells, reply, lengths, input, reading, out,
+        );
     }
 }
 
-// The script on standard input, played on a new board.
-pub fn play() {
+// The script on standard input, played on a new board. What fails is told on `stderr`.
+pub fn play(rt: &(impl Input + Print), stderr: &impl Print) {
     let mut image = [0u32; REGISTERS];
     let mut program = [0u8; 8192];
     let mut cells = [0u8; 8192];
@@ -313,9 +315,11 @@ pub fn play() {
         &mut reply,
         &mut lengths,
     );
-    let mut input = io::large_buffer();
-    let mut out = io::large_buffer();
+    let mut input = [0u8; 65536];
+    let mut out = [0u8; 65536];
     turns(
+        rt,
+        stderr,
         &mut image,
         &mut program,
         &mut cells,

@@ -53,10 +53,8 @@ fn put_record(program: &mut [u8; 8192], address: usize, bytes: &[u8; 64]) {
     if 1023 < address {
         return;
     }
-    let mut i = 0;
-    while i < 7 {
+    for i in 0..7 {
         program[address * 7 + i] = bytes[i];
-        i += 1;
     }
 }
 

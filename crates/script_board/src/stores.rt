@@ -1,6 +1,5 @@
 // The stores: arrays, and how many of its bytes each store has at present.
-ghost use Rattle.std.specs.Prelude.{◌≤◌};
-ghost use Rattle.io.specs.Counts.{IsPrefixLen};
+ghost use Rattle.std.specs.Prelude.{◌≤◌, length};
 
 use words::Word;
 
@@ -12,20 +11,18 @@ pub(crate) const REPLY: usize = 9;
 
 // How many bytes of a slice are lent: as many as are asked for, where it has them.
 pub(crate) fn within(n: usize, s: &[u8]) -> usize
-    ensures { IsPrefixLen result s.now }
+    ensures { result ≤ length s.now }
 {
     if n < s.len() { n } else { s.len() }
 }
 
 // Bytes 0 from a place up to another.
 pub(crate) fn clear(store: &mut [u8; 8192], from: usize, to: usize) {
-    let mut i = from;
-    while i < to {
+    for i in from..to {
         if 8192 <= i {
             break;
         }
         store[i] = 0;
-        i += 1;
     }
 }
 

@@ -4,55 +4,62 @@
 // the disk. So a file is never half the one and half the other.
 ghost use Rattle.std.specs.Prelude.{◌≤◌, length};
 
-// How many bytes were read; or that a read failed.
-#[derive(Clone, Copy)]
-pub(crate) struct Filled {
-    pub(crate) count: usize,
-    pub(crate) failed: bool,
-}
+use std::fs::OpenFile;
+use std::io::{Read, Write};
+use std::num::wrapping_add_usize;
+use std::rt::Files;
+use std::{fs, io};
 
 // What is added to a file's name while it is written.
 const NEW: [u8; 4] = *b".new";
 
+// Linux's numbers for a name that is too long and for bytes that are no text.
+const NAME_TOO_LONG: i32 = 36;
+
+const NO_TEXT: i32 = 84;
+
 // One read behind so many bytes.
-fn read_behind(fd: i32, room: &mut [u8], held: usize) -> Filled {
+fn read_behind(from: &mut impl Read, room: &mut [u8], held: usize) -> io::Result<usize> {
     if room.len() < held {
-        return Filled {
-            count: 0,
-            failed: false,
-        };
+        return Ok(0);
     }
-    let got = libc::read(fd, &mut room[held..]);
-    let count = io::count(got, &room[held..]);
-    Filled {
-        count: count,
-        failed: got < 0,
-    }
+    from.read(&mut room[held..])
 }
 
 // Reads until the room is full, the input ends or a read fails. A turn that reads nothing is the last,
 // so as many turns as the room has bytes are enough.
-pub(crate) fn fill(fd: i32, room: &mut [u8]) -> Filled {
+pub(crate) fn fill(from: &mut impl Read, room: &mut [u8]) -> io::Result<usize> {
     let mut held = 0;
-    let mut turns = 0;
-    while turns < room.len() {
-        let read = read_behind(fd, room, held);
-        if read.failed {
-            return read;
-        }
-        if read.count == 0 {
+    for _ in 0..room.len() {
+        let count = read_behind(from, room, held)?;
+        if count == 0 {
             break;
         }
-        held = std::num::wrapping_add_usize(held, read.count);
+        held = wrapping_add_usize(held, count);
         if room.len() <= held {
             break;
         }
-        turns += 1;
     }
-    Filled {
-        count: held,
-        failed: false,
+    Ok(held)
+}
+
+// A file's name as std takes it, which is a text.
+fn path_of(name: &[u8]) -> io::Result<&str> {
+    if 4096 <= name.len() {
+        return Err(io::Error::from_raw_os_error(NAME_TOO_LONG));
     }
+    match str::from_utf8(name) {
+        Ok(text) => Ok(text),
+        Err(_) => Err(io::Error::from_raw_os_error(NO_TEXT)),
+    }
+}
+
+pub(crate) fn open<R: Files>(rt: &R, name: &[u8]) -> io::Result<R::File> {
+    fs::open(rt, path_of(name)?)
+}
+
+fn create<R: Files>(rt: &R, name: &[u8]) -> io::Result<R::File> {
+    fs::create(rt, path_of(name)?)
 }
 
 // A byte of a name with the addition; 0 behind it.
@@ -67,10 +74,8 @@ fn byte_of(name: &[u8], i: usize) -> u8 {
 // A file's name with the addition. Answers its length; a name that is too long fills the path, which
 // no file's name does.
 fn new_name(name: &[u8], path: &mut [u8; 4096]) -> usize {
-    let mut i = 0;
-    while i < 4096 {
+    for i in 0..4096 {
         path[i] = byte_of(name, i);
-        i += 1;
     }
     if 4092 < name.len() {
         return 4096;
@@ -79,85 +84,109 @@ fn new_name(name: &[u8], path: &mut [u8; 4096]) -> usize {
 }
 
 // The bytes into a file, whole and on the disk.
-fn put(fd: i32, bytes: &[u8]) -> bool {
-    if !io::write_all(fd, bytes) {
-        return false;
-    }
-    libc::fsync(fd) == 0
+fn put<F: Write + OpenFile + Drop>(mut file: F, bytes: &[u8]) -> io::Result<()> {
+    file.write_all(bytes)?;
+    file.sync_all()
 }
 
 // Where a name's last word begins: behind its last slash.
 fn last_word(name: &[u8]) -> usize
     ensures { result ≤ length name.now }
 {
-    let mut at = 0;
-    let mut i = 0;
-    while i < name.len() {
-        let slash = name[i] == b'/';
-        i += 1;
-        if slash {
-            at = i;
-        }
+    match name.iter().rposition(|b| *b == b'/') {
+        Some(slash) => slash + 1,
+        None => 0,
     }
-    at
 }
 
-fn open_folder(name: &[u8]) -> i32 {
+fn open_folder<R: Files>(rt: &R, name: &[u8]) -> io::Result<R::File> {
     let end = last_word(name);
     if end == 0 {
-        return os::open_read(b".");
+        return open(rt, b".");
     }
-    os::open_read(&name[0..end])
+    open(rt, &name[0..end])
 }
 
 // Has the folder keep a file's new name over a loss of power. Where it cannot, the file holds the image
 // all the same.
-fn settle(name: &[u8]) {
-    let fd = open_folder(name);
-    if fd < 0 {
-        return;
+fn settle(rt: &impl Files, name: &[u8]) {
+    if let Ok(folder) = open_folder(rt, name) {
+        let _ = folder.sync_all();
     }
-    libc::fsync(fd);
-    libc::close(fd);
+}
+
+// A new file that cannot take the name is not left behind, as far as it can be taken away.
+fn remove(rt: &impl Files, fresh: &[u8]) {
+    if let Ok(text) = path_of(fresh) {
+        let _ = fs::remove_file(rt, text);
+    }
+}
+
+fn rename(rt: &impl Files, fresh: &[u8], name: &[u8]) -> io::Result<()> {
+    fs::rename(rt, path_of(fresh)?, path_of(name)?)
 }
 
 // The bytes into the new file, which then takes the name.
-fn replace(name: &[u8], fresh: &[u8], bytes: &[u8]) -> bool {
-    let fd = os::open_overwrite(fresh);
-    if fd < 0 {
-        os::fail(fresh);
+fn renamed<R: Files>(
+    rt: &R,
+    stderr: &impl Print,
+    name: &[u8],
+    fresh: &[u8],
+    file: R::File,
+    bytes: &[u8],
+) -> bool {
+    if let Err(error) = put(file, bytes) {
+        failing::tell(stderr, fresh, &error);
+        remove(rt, fresh);
         return false;
     }
-    if !put(fd, bytes) {
-        os::fail(fresh);
-        libc::close(fd);
-        os::unlink(fresh);
+    if let Err(error) = rename(rt, fresh, name) {
+        failing::tell(stderr, name, &error);
+        remove(rt, fresh);
         return false;
     }
-    libc::close(fd);
-    if os::rename(fresh, name) != 0 {
-        os::fail(name);
-        os::unlink(fresh);
-        return false;
-    }
-    settle(name);
+    settle(rt, name);
     true
 }
 
-fn replace_by(name: &[u8], path: &[u8], length: usize, bytes: &[u8]) -> bool {
+fn replace(rt: &impl Files, stderr: &impl Print, name: &[u8], fresh: &[u8], bytes: &[u8]) -> bool {
+    match create(rt, fresh) {
+        Ok(file) => renamed(rt, stderr, name, fresh, file, bytes),
+        Err(error) => {
+            failing::tell(stderr, fresh, &error);
+            false
+        }
+    }
+}
+
+fn replace_by(
+    rt: &impl Files,
+    stderr: &impl Print,
+    name: &[u8],
+    path: &[u8],
+    length: usize,
+    bytes: &[u8],
+) -> bool {
     if path.len() < length {
         return false;
     }
-    replace(name, &path[0..length], bytes)
+    replace(rt, stderr, name, &path[0..length], bytes)
 }
 
-fn replace_at(name: &[u8], path: &[u8; 4096], length: usize, bytes: &[u8]) -> bool {
-    replace_by(name, path, length, bytes)
+fn replace_at(
+    rt: &impl Files,
+    stderr: &impl Print,
+    name: &[u8],
+    path: &[u8; 4096],
+    length: usize,
+    bytes: &[u8],
+) -> bool {
+    replace_by(rt, stderr, name, path, length, bytes)
 }
 
 // The bytes into the file of a name. Where it cannot be, a line on standard error says why.
-pub(crate) fn save(name: &[u8], bytes: &[u8]) -> bool {
+pub(crate) fn save(rt: &impl Files, stderr: &impl Print, name: &[u8], bytes: &[u8]) -> bool {
     let mut path = [0u8; 4096];
     let length = new_name(name, &mut path);
-    replace_at(name, &path, length, bytes)
+    replace_at(rt, stderr, name, &path, length, bytes)
 }

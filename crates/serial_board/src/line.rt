@@ -4,8 +4,8 @@
 // A reply says that what was asked is done, so it goes out only once the files hold what it changed.
 use crate::images::{CELLS, Loaded, PROGRAM};
 use crate::{files, images};
-use libc::{STDIN_FILENO, STDOUT_FILENO};
 use reg_image::REGISTERS;
+use std::rt::Files;
 
 const STEPS: usize = 100;
 
@@ -19,29 +19,34 @@ fn is_replied(status: u8) -> bool {
     }
 }
 
-fn send(status: u8, reply: &[u8; 9]) -> bool {
+fn send(rt: &impl Print, stderr: &impl Print, status: u8, reply: &[u8; 9]) -> bool {
     if !is_replied(status) {
         return true;
     }
-    if io::write_all(STDOUT_FILENO, reply) {
-        return true;
+    match rt.write_all(reply) {
+        Ok(()) => true,
+        Err(error) => {
+            failing::tell(stderr, b"standard output", &error);
+            false
+        }
     }
-    os::fail(b"standard output");
-    false
 }
 
 // The next nine bytes of the line, where there are so many.
-fn receive(frame: &mut [u8; 9]) -> bool {
-    let filled = files::fill(STDIN_FILENO, frame);
-    if filled.failed {
-        os::fail(b"standard input");
-        return false;
+fn receive(rt: &impl Input, stderr: &impl Print, frame: &mut [u8; 9]) -> bool {
+    match files::fill(&mut rt.reader(), frame) {
+        Ok(count) => count == 9,
+        Err(error) => {
+            failing::tell(stderr, b"standard input", &error);
+            false
+        }
     }
-    filled.count == 9
 }
 
 // A datagram, its reply, and what the board does behind it. Answers whether the board goes on.
 fn turn(
+    rt: &(impl Files + Print),
+    stderr: &impl Print,
     image: &mut [u32; REGISTERS],
     program: &mut [u8; 7168],
     cells: &mut [u8; 364],
@@ -53,23 +58,25 @@ fn turn(
     program_name: &[u8],
 ) -> bool {
     let status = board_datagrams::datagram(image, program, cells, reply, frame);
-    if !images::keep(program_name, program, held_program) {
+    if !images::keep(rt, stderr, program_name, program, held_program) {
         return false;
     }
-    if !images::keep(cells_name, cells, held_cells) {
+    if !images::keep(rt, stderr, cells_name, cells, held_cells) {
         return false;
     }
-    if !send(status, reply) {
+    if !send(rt, stderr, status, reply) {
         return false;
     }
     board_events::tick(image);
     board_runs::run(image, program, cells, STEPS);
-    images::keep(cells_name, cells, held_cells)
+    images::keep(rt, stderr, cells_name, cells, held_cells)
 }
 
-// A proved loop has to end, and nothing says that a line does. So the loop counts its turns down, from
-// a number that no run uses up.
+// A proved loop has to end, and nothing says that a line does. So the loop counts its turns, up to a
+// number that no run uses up.
 fn turns(
+    rt: &(impl Files + Input + Print),
+    stderr: &impl Print,
     image: &mut [u32; REGISTERS],
     program: &mut [u8; 7168],
     cells: &mut [u8; 364],
@@ -80,12 +87,13 @@ fn turns(
     cells_name: &[u8],
     program_name: &[u8],
 ) {
-    let mut left = u64::MAX;
-    while 0 < left {
-        if !receive(frame) {
+    for _ in 0..u64::MAX {
+        if !receive(rt, stderr, frame) {
             break;
         }
         if !turn(
+            rt,
+            stderr,
             image,
             program,
             cells,
@@ -98,17 +106,22 @@ fn turns(
         ) {
             break;
         }
-        left -= 1;
     }
 }
 
 // The cells of a file, or the default ones. Answers false where the file is refused.
-fn take_cells(name: &[u8], cells: &mut [u8; 364], room: &mut [u8; 8192]) -> bool {
+fn take_cells(
+    rt: &impl Files,
+    stderr: &impl Print,
+    name: &[u8],
+    cells: &mut [u8; 364],
+    room: &mut [u8; 8192],
+) -> bool {
     board_events::new_cells(cells);
     if name.len() == 0 {
         return true;
     }
-    match images::load(name, CELLS, room) {
+    match images::load(rt, stderr, name, CELLS, room) {
         Loaded::Taken => {
             images::copy(room, cells);
             true
@@ -119,11 +132,17 @@ fn take_cells(name: &[u8], cells: &mut [u8; 364], room: &mut [u8; 8192]) -> bool
 }
 
 // The program of a file, or none. Answers false where the file is refused.
-fn take_program(name: &[u8], program: &mut [u8; 7168], room: &mut [u8; 8192]) -> bool {
+fn take_program(
+    rt: &impl Files,
+    stderr: &impl Print,
+    name: &[u8],
+    program: &mut [u8; 7168],
+    room: &mut [u8; 8192],
+) -> bool {
     if name.len() == 0 {
         return true;
     }
-    match images::load(name, PROGRAM, room) {
+    match images::load(rt, stderr, name, PROGRAM, room) {
         Loaded::Taken => {
             images::copy(room, program);
             true
@@ -135,6 +154,8 @@ fn take_program(name: &[u8], program: &mut [u8; 7168], room: &mut [u8; 8192]) ->
 
 // The board powered up on its stores, and the line served.
 fn begin(
+    rt: &(impl Files + Input + Print),
+    stderr: &impl Print,
     program: &mut [u8; 7168],
     cells: &mut [u8; 364],
     held_program: &mut [u8; 7168],
@@ -149,6 +170,8 @@ fn begin(
     let mut frame = [0u8; 9];
     board_events::power_up(&mut image, cells);
     turns(
+        rt,
+        stderr,
         &mut image,
         program,
         cells,
@@ -162,20 +185,27 @@ fn begin(
 }
 
 // A board on standard input and output, with its images in the files of these names; an empty name is
-// no file.
-pub fn serve(cells_name: &[u8], program_name: &[u8]) {
+// no file. What fails or is refused is told on `stderr`.
+pub fn serve(
+    rt: &(impl Files + Input + Print),
+    stderr: &impl Print,
+    cells_name: &[u8],
+    program_name: &[u8],
+) {
     let mut program = [0u8; 7168];
     let mut cells = [0u8; 364];
     let mut room = [0u8; 8192];
-    if !take_cells(cells_name, &mut cells, &mut room) {
+    if !take_cells(rt, stderr, cells_name, &mut cells, &mut room) {
         return;
     }
-    if !take_program(program_name, &mut program, &mut room) {
+    if !take_program(rt, stderr, program_name, &mut program, &mut room) {
         return;
     }
     let mut held_program = [0u8; 7168];
     let mut held_cells = [0u8; 364];
     begin(
+        rt,
+        stderr,
         &mut program,
         &mut cells,
         &mut held_program,

@@ -3,21 +3,20 @@
 // Before it comes a session with an image of five bytes, which is refused with 20: it takes nothing of the
 // line, and the five bytes are there afterwards.
 #![tactic(auto)]
-use libc::STDOUT_FILENO;
+
 use serial_board::{CELLS, Loaded, PROGRAM};
 use std::num::wrapping_add_usize;
+use std::rt::Files;
 
 // Whether two images have the same bytes from a place up to another.
 fn is_same(a: &[u8; 8192], b: &[u8; 8192], from: usize, to: usize) -> bool {
-    let mut i = from;
-    while i < to {
+    for i in from..to {
         if 8192 <= i {
             break;
         }
         if a[i] != b[i] {
             return false;
         }
-        i += 1;
     }
     true
 }
@@ -56,20 +55,20 @@ fn put_parts(
 ) -> usize {
     let mut end = at;
     let mut from = 0;
-    let mut number = 0;
-    while number < count {
+    for number in 0..count {
         let to = wrapping_add_usize(from, width);
         if !is_same(image, fresh, from, to) {
             end = put_part(out, end, name, number, image, from, to);
         }
         from = to;
-        number += 1;
     }
     end
 }
 
 // The same of an image file of this length, or that it holds no image.
 fn put_file(
+    rt: &impl Files,
+    stderr: &impl Print,
     out: &mut [u8; 65536],
     at: usize,
     file: &[u8],
@@ -80,7 +79,7 @@ fn put_file(
     width: usize,
 ) -> usize {
     let mut room = [0u8; 8192];
-    match serial_board::load(file, length, &mut room) {
+    match serial_board::load(rt, stderr, file, length, &mut room) {
         Loaded::Taken => put_parts(out, at, name, &room, fresh, count, width),
         _ => {
             let named = text::put_all(out, at, file);
@@ -96,29 +95,45 @@ fn fresh_cells(image: &mut [u8]) {
     }
 }
 
-fn put_images(out: &mut [u8; 65536], fresh: &mut [u8; 8192]) -> usize {
+fn put_images(
+    rt: &impl Files,
+    stderr: &impl Print,
+    out: &mut [u8; 65536],
+    fresh: &mut [u8; 8192],
+) -> usize {
     let line = text::put(out, 0, b'\n');
-    let short = put_file(out, line, b"short", 5, b"short", fresh, 1, 5);
-    let behind = put_file(out, short, b"program", PROGRAM, b"record", fresh, 1024, 7);
+    let short = put_file(rt, stderr, out, line, b"short", 5, b"short", fresh, 1, 5);
+    let behind = put_file(
+        rt, stderr, out, short, b"program", PROGRAM, b"record", fresh, 1024, 7,
+    );
     fresh_cells(fresh);
-    put_file(out, behind, b"cells", CELLS, b"cell", fresh, 91, 4)
+    put_file(
+        rt, stderr, out, behind, b"cells", CELLS, b"cell", fresh, 91, 4,
+    )
 }
 
-fn write(out: &[u8], end: usize) {
+// Where standard output takes no more, the lines are lost.
+fn write(rt: &impl Print, out: &[u8], end: usize) {
     if end <= out.len() {
-        io::write_all(STDOUT_FILENO, &out[0..end]);
+        let _ = rt.write_all(&out[0..end]);
     }
 }
 
-fn tell(out: &mut [u8; 65536], fresh: &mut [u8; 8192]) {
-    let end = put_images(out, fresh);
-    write(out, end);
+fn tell(
+    rt: &(impl Files + Print),
+    stderr: &impl Print,
+    out: &mut [u8; 65536],
+    fresh: &mut [u8; 8192],
+) {
+    let end = put_images(rt, stderr, out, fresh);
+    write(rt, out, end);
 }
 
-fn main() {
-    serial_board::serve(b"short", b"program");
-    serial_board::serve(b"cells", b"program");
+fn main(rt: HostRuntime) {
+    let stderr = rt.stderr();
+    serial_board::serve(&rt, &stderr, b"short", b"program");
+    serial_board::serve(&rt, &stderr, b"cells", b"program");
     let mut out = [0u8; 65536];
     let mut fresh = [0u8; 8192];
-    tell(&mut out, &mut fresh);
+    tell(&rt, &stderr, &mut out, &mut fresh);
 }

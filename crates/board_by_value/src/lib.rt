@@ -1,6 +1,7 @@
 // Document 01's form of the registers: a struct, with a method by value that does one step and hands the
 // state back. It is the one machine's step, over a copy of the image.
 #![tactic(auto)]
+
 ghost use Rattle.board_by_value.specs.Step.{Turns};
 
 use reg_image::REGISTERS;

@@ -1,5 +1,6 @@
 // The event datagram over an image of the registers, answering document 01's numbers.
 #![tactic(auto)]
+
 ghost use Rattle.std.specs.Prelude.{◌≡◌};
 ghost use Rattle.words.specs.Bytes.{four_of};
 ghost use Rattle.values.specs.Values.{value_at};

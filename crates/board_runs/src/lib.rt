@@ -1,5 +1,6 @@
 // The event run, in place, answering document 01's numbers.
 #![tactic(auto)]
+
 ghost use Rattle.std.specs.Prelude.{◌≡◌};
 ghost use Rattle.rules.specs.RunEvent as runs;
 ghost use Rattle.board_runs.specs.Run.{Runs};

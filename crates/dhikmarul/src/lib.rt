@@ -5,6 +5,7 @@
 // `board_events`, `board_datagrams`, `board_runs` or `numbered`, and takes every input. A register's number
 // stands in the image by its bits, so C may read it as signed.
 #![tactic(auto)]
+
 ghost use Rattle.std.specs.Prelude.{◌≡◌};
 ghost use Rattle.board.specs.Registers.{powered};
 ghost use Rattle.rules.specs.Events.{with_tick, with_sample};

@@ -1,5 +1,6 @@
 // Programs that show the check and its promise at work: none of their premises is empty.
 #![tactic(auto)]
+
 ghost use Rattle.witnesses.specs.Checks.{Checks};
 ghost use Rattle.witnesses.specs.Runs.{Runs};
 ghost use Rattle.witnesses.specs.Replies.{Replies};

@@ -3,6 +3,7 @@
 // A word that is asked for stands behind one space. Where it cannot be read, the place that it ends at
 // is 0, where no word ends.
 #![tactic(auto)]
+
 ghost use Rattle.text.specs.Laws.{Laws};
 
 mod print;

@@ -1,9 +1,9 @@
 -- Seven bytes written at a place change no length. Assumes nothing.
-use mathlib.Core.Path.{◌≡◌, ◌∙◌}
+use mathlib.Core.Path.{◌≡◌}
 use mathlib.Core.List.{List}
 use Prim.Native.Nat.{ℕ, ◌+◌}
 use lib.IntN.{ℤ}
-use lib.ListN.{length, set, length-set}
+use lib.ListN.{length, length-set}
 use Rattle.words.proofs.Trips.{put_length}
 use Rattle.wire.specs.Frame.{put_seven}
 

@@ -1,6 +1,5 @@
 -- `axis_fields::sap`.
 use Rattle.fields.specs.Fields.{sap}
-use borrow.Author.Rules.{rules}
 use Rattle.axis_fields.proofs.sap.Goals as goal
 
 pub returns : goal.returns

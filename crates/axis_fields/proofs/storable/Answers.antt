@@ -1,7 +1,6 @@
 -- `axis_fields::storable`.
 use borrow.Author.Tests.{not-false, not-true}
 use Rattle.fields.specs.Fields.{storable}
-use borrow.Author.Rules.{rules}
 use Rattle.axis_fields.proofs.storable.Goals as goal
 
 pub returns-then-not-readable : goal.returns-then-not-readable

@@ -1,7 +1,6 @@
 -- `axis_fields::writable`.
 use borrow.Author.Tests.{not-false, not-true}
 use Rattle.fields.specs.Fields.{writable}
-use borrow.Author.Rules.{rules}
 use Rattle.axis_fields.proofs.writable.Goals as goal
 
 pub returns-then-not-readable : goal.returns-then-not-readable

@@ -2,7 +2,6 @@
 use mathlib.Core.Path.{sym, ◌∙◌}
 use borrow.Author.Tests.{not-true, not-false}
 use Rattle.board_by_value.proofs.Refusals.{is-20, also-20, is-23, is-step}
-use borrow.Author.Rules.{rules}
 use Rattle.board_by_value.proofs.step_in_place.Goals as goal
 
 pub returns-then-not-is_program_store : goal.returns-then-not-is_program_store

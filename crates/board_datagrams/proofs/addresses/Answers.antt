@@ -1,7 +1,6 @@
 -- `board_datagrams::addresses`.
 use Rattle.replying.specs.Reply.{byte_of, addresses}
 use Rattle.board_datagrams.proofs.Taking.{module-place, reply-place}
-use borrow.Author.Rules.{rules}
 use Rattle.board_datagrams.proofs.addresses.Goals as goal
 
 pub returns : goal.returns

@@ -4,7 +4,6 @@ use mathlib.Core.Path.{sym, ap, ◌∙◌}
 use borrow.Author.Tests.{not-true, not-false}
 use Rattle.serial.specs.Serial.{taken_of}
 use Rattle.board_datagrams.proofs.Answering.{other_length, handed-in, taken}
-use borrow.Author.Rules.{rules}
 use Rattle.board_datagrams.proofs.datagram.Goals as goal
 
 pub returns-then-not-lent : goal.returns-then-not-lent

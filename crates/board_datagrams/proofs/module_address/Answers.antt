@@ -1,7 +1,6 @@
 -- `board_datagrams::module_address`.
 use Rattle.replying.specs.Reply.{byte_of}
 use Rattle.board_datagrams.proofs.Taking.{module-place}
-use borrow.Author.Rules.{rules}
 use Rattle.board_datagrams.proofs.module_address.Goals as goal
 
 pub returns : goal.returns

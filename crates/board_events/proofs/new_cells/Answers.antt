@@ -1,7 +1,6 @@
 -- `board_events::new_cells`.
 use borrow.Author.Tests.{not-true, not-false}
 use Rattle.board_events.specs.Events.{new_cells}
-use borrow.Author.Rules.{rules}
 use Rattle.board_events.proofs.new_cells.Goals as goal
 
 pub returns-then-not-is_parameter_store : goal.returns-then-not-is_parameter_store

@@ -2,7 +2,6 @@
 use mathlib.Core.Path.{◌∙◌}
 use Rattle.reg_image.specs.Image.{registers_of}
 use Rattle.board_events.proofs.Parts.{ticked-so}
-use borrow.Author.Rules.{rules}
 use Rattle.board_events.proofs.put_tick.Goals as goal
 
 pub returns : goal.returns

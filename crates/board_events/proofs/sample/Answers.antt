@@ -9,7 +9,6 @@ use Rattle.reg_image.proofs.Places.{then}
 use Rattle.reg_range.specs.Range.{stands}
 use Rattle.board_events.specs.Events.{sample_of, sample_status}
 use Rattle.board_events.proofs.Answers.{done, refused, so_left}
-use borrow.Author.Rules.{rules}
 use Rattle.board_events.proofs.sample.Goals as goal
 
 pub returns-then-not-in_range : goal.returns-then-not-in_range

@@ -7,7 +7,6 @@ use Rattle.reg_image.specs.Image.{registers_of}
 use Rattle.reg_range.specs.Range.{stands}
 use Rattle.board_events.specs.Events.{tick_status}
 use Rattle.board_events.proofs.Answers.{done, refused, so_left}
-use borrow.Author.Rules.{rules}
 use Rattle.board_events.proofs.tick.Goals as goal
 
 pub returns-then-not-in_range : goal.returns-then-not-in_range

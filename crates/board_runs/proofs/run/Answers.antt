@@ -1,6 +1,5 @@
 -- `board_runs::run`.
-use Prim.Native.Nat.{ℕ}
-use mathlib.Core.Path.{◌≡◌, refl, sym, ap, ◌∙◌}
+use mathlib.Core.Path.{◌≡◌, sym, ap, ◌∙◌}
 use borrow.Author.Tests.{not-true, not-false, lt-leb, le-leb, eqb-true}
 use lib.ListN.{length}
 use Rattle.words.proofs.Bools.{each}
@@ -8,7 +7,6 @@ use Rattle.store.specs.Store.{is_program_store, is_parameter_store}
 use Rattle.status.specs.Status.{number_of}
 use Rattle.rules.specs.RunEvent.{Answer}
 use Rattle.board_runs.proofs.Refusals.{shut, is-20, is-23, is-22, is_made, not-refused}
-use borrow.Author.Rules.{rules}
 use Rattle.board_runs.proofs.run.Goals as goal
 
 pub returns-then-not-lent : goal.returns-then-not-lent

@@ -1,5 +1,4 @@
 -- `calculating::calculate`.
-use borrow.Author.Rules.{rules}
 use borrow.Author.Tests.{ne_eqb}
 use Rattle.calculating.specs.Calculate.{calculated}
 use Rattle.calculating.proofs.calculate.Goals as goal

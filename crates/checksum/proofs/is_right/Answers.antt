@@ -1,5 +1,5 @@
 -- `checksum::is_right`.
-use Rattle.std.proofs.Common.{length, rules, eq-eqb, ne_eqb}
+use Rattle.std.proofs.Common.{length, eq-eqb, ne_eqb}
 use Rattle.checksum.specs.Checksum.{right_frame}
 use Rattle.checksum.proofs.Nine.{eight-of}
 use Rattle.checksum.proofs.is_right.Goals as goal

@@ -1,5 +1,5 @@
 -- `cmd_axis::gap`.
-use mathlib.Core.Path.{◌≡◌, refl, sym, ap, ◌∙◌}
+use mathlib.Core.Path.{refl, sym, ap, ◌∙◌}
 use mathlib.Core.Bool.{true}
 use borrow.Author.Tests.{not-true, not-false}
 use Rattle.words.specs.declared.Word.{Word}
@@ -14,7 +14,6 @@ use Rattle.reg_image.specs.Image.{registers_of}
 use Rattle.cmd_turns.specs.Turn.{on, through}
 use Rattle.cmd_turns.specs.Deed.{doing, seen}
 use Rattle.cmd_turns.proofs.Decides.{known, refuses, passes}
-use borrow.Author.Rules.{rules}
 use Rattle.cmd_axis.proofs.gap.Goals as goal
 
 pub returns-then-not-is_done : goal.returns-then-not-is_done

@@ -1,7 +1,6 @@
 -- `cmd_axis::locked`.
 use Rattle.settings.specs.Settings.{locked}
 use Rattle.settings.proofs.Users.{lock-place}
-use borrow.Author.Rules.{rules}
 use Rattle.cmd_axis.proofs.locked.Goals as goal
 
 pub returns : goal.returns

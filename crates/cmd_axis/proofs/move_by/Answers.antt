@@ -7,7 +7,6 @@ use Rattle.wrapping.proofs.Wraps.{wrap-stays}
 use Rattle.rules.specs.Motion.{is_word}
 use Rattle.rules.proofs.Limits.{word_fits}
 use Rattle.cmd_turns.specs.declared.Deed.TheVariants.{Move}
-use borrow.Author.Rules.{rules}
 use Rattle.cmd_axis.proofs.move_by.Goals as goal
 
 pub returns-then-sum_is_word : goal.returns-then-sum_is_word

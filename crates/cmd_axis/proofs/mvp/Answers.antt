@@ -13,7 +13,6 @@ use Rattle.cmd_turns.specs.declared.Deed.{Deed}
 use Rattle.cmd_turns.specs.Deed.{doing, seen}
 use Rattle.cmd_axis.proofs.Rows.{actual-place}
 use Rattle.cmd_axis.proofs.Carries.{carries, refused, passed, absolute, relative, moves}
-use borrow.Author.Rules.{rules}
 use Rattle.cmd_axis.proofs.mvp.Goals as goal
 
 pub returns-then-not-is_done : goal.returns-then-not-is_done

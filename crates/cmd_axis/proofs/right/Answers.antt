@@ -12,7 +12,6 @@ use Rattle.cmd_turns.specs.declared.Deed.{Deed}
 use Rattle.cmd_turns.specs.Deed.{doing, seen}
 use Rattle.cmd_axis.proofs.Rows.{limit-place}
 use Rattle.cmd_axis.proofs.Carries.{carries, refused, passed, turns-right}
-use borrow.Author.Rules.{rules}
 use Rattle.cmd_axis.proofs.right.Goals as goal
 
 pub returns-then-not-is_done : goal.returns-then-not-is_done

@@ -13,7 +13,6 @@ use Rattle.rules.specs.Deciding.{decided_by}
 use Rattle.cmd_turns.specs.declared.Deed.TheVariants.{Set}
 use Rattle.cmd_turns.specs.Deed.{doing, seen}
 use Rattle.cmd_axis.proofs.Carries.{carries, refused, passed}
-use borrow.Author.Rules.{rules}
 use Rattle.cmd_axis.proofs.rsap.Goals as goal
 
 pub returns-then-not-is_done : goal.returns-then-not-is_done

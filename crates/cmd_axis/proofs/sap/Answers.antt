@@ -13,7 +13,6 @@ use Rattle.rules.specs.Deciding.{decided_by}
 use Rattle.cmd_turns.specs.declared.Deed.{Deed}
 use Rattle.cmd_turns.specs.Deed.{doing, seen}
 use Rattle.cmd_axis.proofs.Carries.{carries, refused, passed, right-type, on-axis, sets}
-use borrow.Author.Rules.{rules}
 use Rattle.cmd_axis.proofs.sap.Goals as goal
 
 pub returns-then-not-is_done : goal.returns-then-not-is_done

@@ -16,7 +16,6 @@ use Rattle.cmd_turns.specs.declared.Deed.TheVariants.{Store}
 use Rattle.cmd_turns.specs.Deed.{doing, seen}
 use Rattle.cmd_axis.proofs.Rows.{cell-low}
 use Rattle.cmd_axis.proofs.Carries.{carries, refused, passed, locked-out, unlocked}
-use borrow.Author.Rules.{rules}
 use Rattle.cmd_axis.proofs.stap.Goals as goal
 
 pub returns-then-not-is_done : goal.returns-then-not-is_done

@@ -7,7 +7,6 @@ use Rattle.judge.specs.Judge.{judged, is_flow, is_reading}
 use Rattle.rules.specs.Deciding.{decided_by}
 use Rattle.cmd_turns.specs.Deed.{doing, seen}
 use Rattle.cmd_axis.proofs.Carries.{carries, refused}
-use borrow.Author.Rules.{rules}
 use Rattle.cmd_axis.proofs.stop.Goals as goal
 
 pub returns-then-not-is_done : goal.returns-then-not-is_done

@@ -10,7 +10,6 @@ use Rattle.cmd_turns.specs.Turn.{through, flowed}
 use Rattle.cmd_turns.specs.Deed.{doing, seen}
 use Rattle.cmd_turns.proofs.Decides.{known, refuses, passes}
 use borrow.Author.Tests.{le-leb, lt-leb}
-use borrow.Author.Rules.{rules}
 use Rattle.cmd_flow.proofs.csub.Goals as goal
 
 pub returns-then-not-is_done : goal.returns-then-not-is_done

@@ -1,5 +1,4 @@
 -- `cmd_flow::happened`.
-use borrow.Author.Rules.{rules}
 use borrow.Author.Tests.{ne_eqb}
 use Rattle.waiting.specs.Waiting.{happened}
 use Rattle.cmd_flow.proofs.happened.Goals as goal

@@ -1,5 +1,4 @@
 -- `cmd_flow::is_on`.
-use borrow.Author.Rules.{rules}
 use Rattle.waiting.specs.Waiting.{is_on}
 use Rattle.cmd_flow.proofs.is_on.Goals as goal
 

@@ -1,16 +1,13 @@
 -- `cmd_flow::ja`.
-use mathlib.Core.Path.{◌≡◌, refl, sym, ap, ◌∙◌}
+use mathlib.Core.Path.{refl, sym, ap, ◌∙◌}
 use mathlib.Core.Bool.{true}
-use lib.Dec.{leb}
 use borrow.Author.Tests.{not-true, not-false}
 use Rattle.status.specs.Status.{is_unknown}
 use Rattle.jumping.specs.Jump.{is_address}
 use Rattle.judge.specs.Judge.{judged, is_flow}
-use Rattle.reg_image.specs.Image.{registers_of}
 use Rattle.cmd_turns.specs.Turn.{through, flowed}
 use Rattle.cmd_turns.specs.Deed.{doing, seen}
 use Rattle.cmd_turns.proofs.Decides.{known, refuses, passes}
-use borrow.Author.Rules.{rules}
 use Rattle.cmd_flow.proofs.ja.Goals as goal
 
 pub returns-then-not-is_done : goal.returns-then-not-is_done

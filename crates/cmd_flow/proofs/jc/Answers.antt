@@ -11,8 +11,6 @@ use Rattle.cmd_turns.specs.Turn.{through, flowed}
 use Rattle.cmd_turns.specs.Deed.{doing, seen}
 use Rattle.cmd_turns.proofs.Decides.{known, refuses, passes}
 use Rattle.jumping.specs.Jump.{jumps}
-use Rattle.words.specs.Word.{pick}
-use borrow.Author.Rules.{rules}
 use Rattle.cmd_flow.proofs.jc.Goals as goal
 
 pub returns-then-not-is_done : goal.returns-then-not-is_done

@@ -1,7 +1,6 @@
 -- `cmd_flow::jumps`.
 use borrow.Author.Tests.{ne_eqb}
 use Rattle.jumping.specs.Jump.{jumps}
-use borrow.Author.Rules.{rules}
 use Rattle.cmd_flow.proofs.jumps.Goals as goal
 
 pub returns-in-0 : goal.returns-in-0

@@ -1,11 +1,10 @@
 -- `cmd_flow::tested`.
-use mathlib.Core.Path.{◌≡◌, refl, sym, ap, ◌∙◌}
+use mathlib.Core.Path.{◌≡◌, sym, ◌∙◌}
 use mathlib.Core.Bool.{true, false}
 use lib.Dec.{eqb}
 use borrow.Author.Tests.{eq-eqb, ne_eqb, not-true, not-false}
 use Rattle.waiting.specs.Waiting.{tested}
 use Rattle.cmd_turns.specs.Deed.{doing}
-use borrow.Author.Rules.{rules}
 use Rattle.cmd_flow.proofs.tested.Goals as goal
 
 pub returns-then-count-eq0 : goal.returns-then-count-eq0

@@ -12,7 +12,6 @@ use Rattle.reg_image.specs.Image.{registers_of}
 use Rattle.cmd_turns.specs.Turn.{through, flowed}
 use Rattle.cmd_turns.specs.Deed.{doing, seen}
 use Rattle.cmd_turns.proofs.Decides.{known, drops, passes}
-use borrow.Author.Rules.{rules}
 use Rattle.cmd_flow.proofs.wait.Goals as goal
 
 pub returns-then-not-is_done : goal.returns-then-not-is_done

@@ -9,7 +9,6 @@ use Rattle.reg_image.specs.Image.{registers_of}
 use Rattle.cmd_turns.specs.declared.Deed.TheVariants.{Number}
 use Rattle.cmd_turns.specs.Deed.{doing, seen}
 use Rattle.cmd_axis.proofs.Carries.{loads, refused, passed}
-use borrow.Author.Rules.{rules}
 use Rattle.cmd_globals.proofs.ggp.Goals as goal
 
 pub returns-then-not-is_done : goal.returns-then-not-is_done

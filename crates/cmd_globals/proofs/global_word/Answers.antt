@@ -5,7 +5,6 @@ use Rattle.rules.specs.Reading.{bit}
 use Rattle.reg_image.specs.With.{with_address}
 use Rattle.reg_image.specs.Image.{registers_of}
 use Rattle.cmd_globals.proofs.Users.{reads-user, reads-running, reads-address, reads-global}
-use borrow.Author.Rules.{rules}
 use Rattle.cmd_globals.proofs.global_word.Goals as goal
 
 pub returns-then-bank-eq2 : goal.returns-then-bank-eq2

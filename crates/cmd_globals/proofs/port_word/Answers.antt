@@ -3,7 +3,6 @@ use mathlib.Core.Path.{ap, ◌∙◌}
 use Rattle.rules.specs.Reading.{number}
 use Rattle.reg_image.specs.Image.{registers_of}
 use Rattle.cmd_globals.proofs.Users.{digital-port, analog-port, output-port}
-use borrow.Author.Rules.{rules}
 use Rattle.cmd_globals.proofs.port_word.Goals as goal
 
 pub returns-in-0 : goal.returns-in-0

@@ -1,7 +1,6 @@
 -- `cmd_globals::set_global`.
 use borrow.Author.Tests.{eq-eqb, ne_eqb}
 use Rattle.cmd_globals.proofs.Users.{global-low}
-use borrow.Author.Rules.{rules}
 use Rattle.cmd_globals.proofs.set_global.Goals as goal
 
 pub returns-then-place-eq-LOCK : goal.returns-then-place-eq-LOCK

@@ -16,7 +16,6 @@ use Rattle.cmd_turns.specs.Deed.{doing, seen}
 use Rattle.cmd_axis.proofs.Carries.{carries, refused, passed, right-type}
 use Rattle.settings.proofs.Users.{user-place, other-bank}
 use Rattle.cmd_globals.proofs.Users.{takes-global, user-assigned, sets-global}
-use borrow.Author.Rules.{rules}
 use Rattle.cmd_globals.proofs.sgp.Goals as goal
 
 pub returns-then-not-is_done : goal.returns-then-not-is_done

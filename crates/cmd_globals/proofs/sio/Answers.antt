@@ -10,7 +10,6 @@ use Rattle.rules.specs.Deciding.{decided_by}
 use Rattle.cmd_turns.specs.declared.Deed.TheVariants.{Output}
 use Rattle.cmd_turns.specs.Deed.{doing, seen}
 use Rattle.cmd_axis.proofs.Carries.{carries, refused, passed}
-use borrow.Author.Rules.{rules}
 use Rattle.cmd_globals.proofs.sio.Goals as goal
 
 pub returns-then-not-is_done : goal.returns-then-not-is_done

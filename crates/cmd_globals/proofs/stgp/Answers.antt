@@ -19,7 +19,6 @@ use Rattle.cmd_turns.specs.Deed.{doing, seen}
 use Rattle.cmd_axis.proofs.Carries.{carries, refused, passed, right-motor, right-type, locked-out, unlocked}
 use Rattle.rules.proofs.Users.{cell-of-user}
 use Rattle.settings.proofs.Users.{user-place}
-use borrow.Author.Rules.{rules}
 use Rattle.cmd_globals.proofs.stgp.Goals as goal
 
 pub returns-then-not-is_done : goal.returns-then-not-is_done

@@ -1,5 +1,5 @@
 -- `cmd_numbers::calc`.
-use mathlib.Core.Path.{◌≡◌, refl, sym, ap, ◌∙◌}
+use mathlib.Core.Path.{refl, sym, ap, ◌∙◌}
 use mathlib.Core.Bool.{true}
 use lib.Dec.{leb}
 use borrow.Author.Tests.{not-true, not-false, eq-eqb, ne_eqb}
@@ -8,11 +8,9 @@ use Rattle.fields.specs.Fields as fields
 use Rattle.judge.specs.Judge.{judged, is_flow, is_reading}
 use Rattle.rules.specs.Deciding.{worked, decided_by}
 use Rattle.rules.specs.Numbers as numbers
-use Rattle.reg_image.specs.Image.{registers_of}
 use Rattle.cmd_turns.specs.Turn.{through}
 use Rattle.cmd_turns.specs.Deed.{doing, seen}
 use Rattle.cmd_turns.proofs.Decides.{known, refuses, passes}
-use borrow.Author.Rules.{rules}
 use Rattle.cmd_numbers.proofs.calc.Goals as goal
 
 pub returns-then-not-is_done : goal.returns-then-not-is_done

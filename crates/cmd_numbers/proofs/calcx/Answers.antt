@@ -1,10 +1,9 @@
 -- `cmd_numbers::calcx`.
-use mathlib.Core.Path.{◌≡◌, refl, sym, ap, ◌∙◌}
+use mathlib.Core.Path.{refl, sym, ap, ◌∙◌}
 use mathlib.Core.Bool.{true}
 use lib.Dec.{leb}
-use borrow.Author.Tests.{not-true, not-false, eq-eqb, ne_eqb}
+use borrow.Author.Tests.{not-true, not-false, ne_eqb}
 use Rattle.status.specs.Status.{is_unknown}
-use Rattle.fields.specs.Fields as fields
 use Rattle.judge.specs.Judge.{judged, is_flow, is_reading}
 use Rattle.rules.specs.Deciding.{worked, decided_by}
 use Rattle.rules.specs.Numbers as numbers
@@ -12,7 +11,6 @@ use Rattle.reg_image.specs.Image.{registers_of}
 use Rattle.cmd_turns.specs.Turn.{through}
 use Rattle.cmd_turns.specs.Deed.{doing, seen}
 use Rattle.cmd_turns.proofs.Decides.{known, refuses, passes}
-use borrow.Author.Rules.{rules}
 use Rattle.cmd_numbers.proofs.calcx.Goals as goal
 
 pub returns-then-not-is_done : goal.returns-then-not-is_done

@@ -1,10 +1,8 @@
 -- `cmd_numbers::comp`.
-use mathlib.Core.Path.{◌≡◌, refl, ap}
 use Rattle.judge.specs.Judge.{judged, is_flow, is_reading}
 use Rattle.rules.specs.Deciding.{worked, decided_by}
 use Rattle.cmd_turns.specs.Turn.{turned, through}
 use Rattle.cmd_turns.specs.Deed.{doing}
-use borrow.Author.Rules.{rules}
 use Rattle.cmd_numbers.proofs.comp.Goals as goal
 
 pub returns : goal.returns

@@ -1,8 +1,6 @@
 -- `cmd_numbers::into_accumulator`.
-use mathlib.Core.Path.{refl}
 use Rattle.rules.specs.Numbers.{into_accumulator}
 use Rattle.cmd_turns.specs.Deed.{doing}
-use borrow.Author.Rules.{rules}
 use Rattle.cmd_numbers.proofs.into_accumulator.Goals as goal
 
 pub returns-in-Done : goal.returns-in-Done

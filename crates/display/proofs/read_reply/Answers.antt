@@ -1,6 +1,5 @@
 -- `display::read_reply`: : each return by the tests that led to it.
 use mathlib.Core.Path.{sym, ◌∙◌}
-use borrow.Author.Rules.{rules}
 use borrow.Author.Tests.{eq-eqb, ne_eqb}
 use lib.ListN.{length}
 use Rattle.display.specs.Display.{read_of}

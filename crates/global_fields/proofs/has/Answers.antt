@@ -1,7 +1,6 @@
 -- `global_fields::has`.
 use borrow.Author.Tests.{eq-eqb, ne_eqb}
 use Rattle.fields.specs.Fields.{has}
-use borrow.Author.Rules.{rules}
 use Rattle.global_fields.proofs.has.Goals as goal
 
 pub returns-then-bank-eq2 : goal.returns-then-bank-eq2

@@ -1,5 +1,4 @@
 -- `jumping::address_of`.
-use borrow.Author.Rules.{rules}
 use borrow.Author.Tests.{lt-ltb, le-ltb}
 use Rattle.jumping.specs.Jump.{address_of}
 use Rattle.jumping.proofs.address_of.Goals as goal

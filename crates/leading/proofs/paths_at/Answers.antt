@@ -1,6 +1,5 @@
 -- `leading::paths_at`.
-use mathlib.Core.Path.{◌≡◌, ap, sym, ◌∙◌}
-use borrow.Author.Rules.{rules}
+use mathlib.Core.Path.{ap, sym, ◌∙◌}
 use borrow.Author.Tests.{le-leb, lt-leb}
 use Rattle.store.specs.Store.{record_at}
 use Rattle.leading.specs.Leading.{status_at, way_at}

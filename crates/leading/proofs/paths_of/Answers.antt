@@ -1,6 +1,5 @@
 -- `leading::paths_of`.
 use mathlib.Core.Path.{refl, ap}
-use borrow.Author.Rules.{rules}
 use borrow.Author.Tests.{ne_eqb}
 use Rattle.jumping.specs.Jump.{address_of}
 use Rattle.fields.specs.Fields.{sap, sgp}

@@ -2,7 +2,6 @@
 use Prim.Native.Nat.{zero-le}
 use native.Mathlib.Omega.{arith}
 use mathlib.Core.Path.{ap, sym, ◌∙◌}
-use borrow.Author.Rules.{rules}
 use Rattle.sheet.specs.Places.{axis_place}
 use Rattle.sheet.specs.Sheet.{axis, rwe_rows, rw_rows, r_rows}
 use Rattle.places.proofs.Groups.{its-place, past-last}

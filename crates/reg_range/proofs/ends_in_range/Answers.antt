@@ -1,11 +1,11 @@
 -- `reg_range::ends_in_range`.
 use Prim.Native.Nat.{ℕ}
-use mathlib.Core.Path.{◌≡◌, ◌∙◌}
+use mathlib.Core.Path.{◌≡◌}
 use mathlib.Core.Bool.{Bool}
 use lib.Dec.{leb}
 use lib.ListN.{length, get_or}
 use Rattle.sheet.specs.Rows.{rows}
-use Rattle.values.specs.Values.{allowed_at, eight}
+use Rattle.values.specs.Values.{allowed_at}
 use Rattle.reg_image.specs.Image.{registers_of}
 use Rattle.reg_range.proofs.Regroup.{ends-filled}
 use Rattle.reg_range.proofs.Wider.{wider-2}

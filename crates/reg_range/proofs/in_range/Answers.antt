@@ -8,7 +8,6 @@ use Rattle.board.specs.Range.{registers_in_range}
 use Rattle.reg_image.specs.Image.{shaped, registers_of}
 use Rattle.reg_range.specs.Range.{stands}
 use Rattle.reg_range.proofs.Regroup.{found}
-use borrow.Author.Rules.{rules}
 use Rattle.reg_range.proofs.in_range.Goals as goal
 
 pub returns : goal.returns

@@ -1,6 +1,5 @@
 -- `replying::reply_with`.
 use Rattle.replying.specs.Reply.{replied}
-use borrow.Author.Rules.{rules}
 use Rattle.replying.proofs.reply_with.Goals as goal
 
 pub returns : goal.returns

@@ -1,12 +1,8 @@
 -- `resetting::reset_cells`: The loop's invariant: all before the place are reset.
-use Prim.Native.Nat.{ℕ, ◌-◌, ◌≤◌}
-use mathlib.Core.Path.{◌≡◌, ap, subst, ◌∙◌}
-use native.Mathlib.Omega.{arith}
-use borrow.Author.Rules.{rules}
-use lib.ListN.{length}
+use Prim.Native.Nat.{◌-◌, ◌≤◌}
+use mathlib.Core.Path.{◌≡◌}
 use Rattle.sheet.specs.Rows.{rows}
 use Rattle.resetting.specs.Resetting.{reset_cells}
-use Rattle.resetting.proofs.Ones.{no_cells, one_cell, cells_length}
 use Rattle.resetting.proofs.reset_cells.Given as goal
 
 abbrev pub invariant-loop-place : goal.invariant-loop-place

@@ -1,5 +1,4 @@
 -- `rows::allowed`.
-use borrow.Author.Rules.{rules}
 use borrow.Author.Tests.{not-true, not-false}
 use Rattle.rows.specs.Row.{allowed}
 use Rattle.rows.proofs.allowed.Goals as goal

@@ -1,5 +1,4 @@
 -- `rows::taken`.
-use borrow.Author.Rules.{rules}
 use Rattle.rows.specs.Row.{taken}
 use Rattle.rows.proofs.taken.Goals as goal
 

@@ -5,7 +5,6 @@ use borrow.Author.Tests.{eq-eqb, ne_eqb}
 use Rattle.sheet.specs.Sheet.{globals, read_only}
 use Rattle.settings.specs.Settings.{bank_place}
 use Rattle.settings.proofs.Counts.{axis_rows, parameter_rows, global-rows, place-low}
-use borrow.Author.Rules.{rules}
 use Rattle.settings.proofs.bank_place.Goals as goal
 
 pub overflow_add-result-else-bank-eq2 : goal.overflow_add-result-else-bank-eq2

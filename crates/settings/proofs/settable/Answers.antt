@@ -1,7 +1,6 @@
 -- `settings::settable`.
 use borrow.Author.Tests.{eq-eqb, ne_eqb}
 use Rattle.settings.specs.Settings.{settable}
-use borrow.Author.Rules.{rules}
 use Rattle.settings.proofs.settable.Goals as goal
 
 pub returns-then-place-bank_place : goal.returns-then-place-bank_place

@@ -1,11 +1,10 @@
 -- `store::write`: The loop's invariant: what is left, written from here on, leaves what all bytes leave
 -- from the start.
-use mathlib.Core.Path.{◌≡◌, refl, sym, ◌∙◌}
-use Prim.Native.Nat.{◌+◌, ◌-◌, ◌≤◌}
+use mathlib.Core.Path.{refl, sym, ◌∙◌}
+use Prim.Native.Nat.{◌+◌}
 use borrow.Author.Rules.{rules}
 use native.Mathlib.Nat.{add-zero}
-use lib.ListN.{length, drop, length-set}
-use lib.Seq.{sets}
+use lib.ListN.{length-set}
 use Rattle.store.proofs.Written.{turn, none_left, written_in}
 use Rattle.store.proofs.write.Goals as goal
 

@@ -1,12 +1,9 @@
 -- `store::write`: The loop's invariant: what is left, written from here on, leaves what all bytes leave
 -- from the start.
-use mathlib.Core.Path.{◌≡◌, refl, sym, ◌∙◌}
+use mathlib.Core.Path.{◌≡◌}
 use Prim.Native.Nat.{◌+◌, ◌-◌, ◌≤◌}
-use borrow.Author.Rules.{rules}
-use native.Mathlib.Nat.{add-zero}
-use lib.ListN.{length, drop, length-set}
+use lib.ListN.{length, drop}
 use lib.Seq.{sets}
-use Rattle.store.proofs.Written.{turn, none_left, written_in}
 use Rattle.store.proofs.write.Given as goal
 
 abbrev pub invariant-loop-i : goal.invariant-loop-i

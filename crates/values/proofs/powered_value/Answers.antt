@@ -1,5 +1,4 @@
 -- `values::powered_value`.
-use borrow.Author.Rules.{rules}
 use Rattle.values.specs.Values.{powered_at}
 use Rattle.values.proofs.powered_value.Goals as goal
 

@@ -1,8 +1,7 @@
 -- `walking::least`: The loop's invariant: the depths so far are none of those asked for, and the others are
 -- the rest's, so much deeper.
-use Prim.Native.Nat.{◌+◌, ◌<◌, ◌≤◌}
 use native.Mathlib.Omega.{arith}
-use Rattle.walking.proofs.Depths.{Passed, passed_none, passed-more, passed-least}
+use Rattle.walking.proofs.Depths.{passed_none, passed-more, passed-least}
 use Rattle.walking.proofs.least.Goals as goal
 
 pub loop-rest-init : goal.loop-rest-init

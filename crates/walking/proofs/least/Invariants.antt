@@ -1,8 +1,7 @@
 -- `walking::least`: The loop's invariant: the depths so far are none of those asked for, and the others are
 -- the rest's, so much deeper.
 use Prim.Native.Nat.{◌+◌, ◌<◌, ◌≤◌}
-use native.Mathlib.Omega.{arith}
-use Rattle.walking.proofs.Depths.{Passed, passed_none, passed-more, passed-least}
+use Rattle.walking.proofs.Depths.{Passed}
 use Rattle.walking.proofs.least.Given as goal
 
 abbrev pub invariant-loop-rest : goal.invariant-loop-rest

@@ -1,5 +1,4 @@
 -- `walking::lowest`.
-use borrow.Author.Rules.{rules}
 use Rattle.walking.proofs.Scan.{blank}
 use Rattle.walking.proofs.lowest.Goals as goal
 

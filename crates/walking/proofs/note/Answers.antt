@@ -1,5 +1,4 @@
 -- `walking::note`.
-use borrow.Author.Rules.{rules}
 use native.Mathlib.Omega.{arith}
 use mathlib.Core.Path.{refl}
 use Rattle.walking.proofs.Bad.{shown, noted-bad, noted-nowhere, noted-to, noted-both, noted_back, back_none, noted_call, call_none}

@@ -1,5 +1,4 @@
 -- `walking::reach`.
-use borrow.Author.Rules.{rules}
 use native.Mathlib.Omega.{arith}
 use borrow.Author.Tests.{eq-eqb, ne_eqb, lt-ltb, le-ltb}
 use Rattle.walking.specs.Walk.{reached}

@@ -1,5 +1,4 @@
 -- `walking::spread`.
-use borrow.Author.Rules.{rules}
 use native.Mathlib.Omega.{arith}
 use mathlib.Core.Path.{sym, subst}
 use Rattle.walking.specs.Walk.{Room, EndsIn}

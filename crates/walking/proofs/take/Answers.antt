@@ -1,5 +1,4 @@
 -- `walking::take`.
-use borrow.Author.Rules.{rules}
 use native.Mathlib.Omega.{arith}
 use borrow.Author.Tests.{ne_eqb}
 use Rattle.walking.specs.Walk.{taken}

@@ -1,7 +1,6 @@
 -- `wrapping::wrapped`.
 use mathlib.Core.Path.{◌∙◌, ap}
 use Prim.Native.Nat.{ℕ}
-use borrow.Author.Rules.{rules}
 use mir.Syntax.{w32, w64}
 use mir.Val.{to_z}
 use Rattle.words.specs.Word.{word}

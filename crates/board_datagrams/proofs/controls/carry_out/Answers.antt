@@ -1,6 +1,5 @@
 -- `board_datagrams::controls::carry_out`.
 use Rattle.board_datagrams.proofs.Carrying.{by-130, by_137, by_255, by-other}
-use borrow.Author.Rules.{rules}
 use Rattle.board_datagrams.proofs.controls.carry_out.Goals as goal
 
 pub returns-in-130 : goal.returns-in-130

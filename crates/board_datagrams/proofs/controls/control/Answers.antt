@@ -4,7 +4,6 @@ use mathlib.Core.Bool.{Bool}
 use borrow.Author.Tests.{not-true, not-false}
 use Rattle.rules.specs.Control.{answer}
 use Rattle.board_datagrams.proofs.Carrying.{shut, carried}
-use borrow.Author.Rules.{rules}
 use Rattle.board_datagrams.proofs.controls.control.Goals as goal
 
 pub returns-then-not-is_done : goal.returns-then-not-is_done

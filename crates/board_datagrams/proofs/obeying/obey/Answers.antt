@@ -2,7 +2,6 @@
 use mathlib.Core.Path.{sym, ◌∙◌}
 use borrow.Author.Tests.{le-leb, lt-leb}
 use Rattle.board_datagrams.proofs.Modes.{by-control, by-storing, by-direct}
-use borrow.Author.Rules.{rules}
 use Rattle.board_datagrams.proofs.obeying.obey.Goals as goal
 
 pub returns-then-c-ge128 : goal.returns-then-c-ge128

@@ -1,6 +1,5 @@
 -- `board_datagrams::receiving::answer`.
 use Rattle.board_datagrams.proofs.Answering.{replies}
-use borrow.Author.Rules.{rules}
 use Rattle.board_datagrams.proofs.receiving.answer.Goals as goal
 
 pub returns : goal.returns

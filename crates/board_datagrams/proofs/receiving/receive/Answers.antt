@@ -2,7 +2,6 @@
 use mathlib.Core.Path.{sym, ◌∙◌}
 use Rattle.board_datagrams.proofs.Taking.{ready}
 use Rattle.board_datagrams.proofs.Answering.{not_ours, damaged, whole}
-use borrow.Author.Rules.{rules}
 use Rattle.board_datagrams.proofs.receiving.receive.Goals as goal
 
 pub returns-in-NotOurs : goal.returns-in-NotOurs

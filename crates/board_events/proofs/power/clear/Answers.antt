@@ -2,7 +2,6 @@
 use mathlib.Core.Path.{refl}
 use Rattle.board.specs.Registers.{unpowered}
 use Rattle.reg_image.specs.Image.{part, words, registers_of, shaped}
-use borrow.Author.Rules.{rules}
 use Rattle.board_events.proofs.power.clear.Goals as goal
 
 pub returns : goal.returns

@@ -1,5 +1,5 @@
 -- `board_events::power::fill_user`: The loop's invariant: all from 48 up to the place are filled.
-use Prim.Native.Nat.{ℕ, ◌-◌, ◌≤◌}
+use Prim.Native.Nat.{ℕ, ◌-◌}
 use native.Mathlib.Omega.{arith}
 use mathlib.Core.Path.{◌≡◌, refl, subst}
 use borrow.Author.Rules.{rules}

@@ -1,10 +1,6 @@
 -- `board_events::power::fill_user`: The loop's invariant: all from 48 up to the place are filled.
-use Prim.Native.Nat.{ℕ, ◌-◌, ◌≤◌}
-use native.Mathlib.Omega.{arith}
-use mathlib.Core.Path.{◌≡◌, refl, subst}
-use borrow.Author.Rules.{rules}
+use Prim.Native.Nat.{◌-◌, ◌≤◌}
 use Rattle.board_events.specs.Filling.{Fills}
-use Rattle.board_events.proofs.Powering.{next}
 use Rattle.board_events.proofs.power.fill_user.Given as goal
 
 abbrev pub invariant-loop-place : goal.invariant-loop-place

@@ -10,7 +10,6 @@ use Rattle.board.specs.Registers.{powered}
 use Rattle.board_events.specs.Events.{power_status}
 use Rattle.board_events.proofs.Answers.{done, refused}
 use Rattle.board_events.proofs.Powering.{none_yet, powered-so}
-use borrow.Author.Rules.{rules}
 use Rattle.board_events.proofs.power.power_up.Goals as goal
 
 pub returns-then-not-is_parameter_store : goal.returns-then-not-is_parameter_store

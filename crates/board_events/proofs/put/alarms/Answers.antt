@@ -5,7 +5,6 @@ use Rattle.reg_image.specs.Image.{registers_of}
 use Rattle.reg_image.proofs.Places.{then}
 use Rattle.board_events.specs.Events.{signals_of}
 use Rattle.board_events.proofs.Parts.{alarmed-so}
-use borrow.Author.Rules.{rules}
 use Rattle.board_events.proofs.put.alarms.Goals as goal
 
 pub returns : goal.returns

@@ -6,7 +6,6 @@ use Rattle.reg_image.specs.Image.{registers_of}
 use Rattle.reg_image.proofs.Places.{then}
 use Rattle.board_events.specs.Events.{inputs_of}
 use Rattle.board_events.proofs.Parts.{inputs-so, digital-length, analog-length}
-use borrow.Author.Rules.{rules}
 use Rattle.board_events.proofs.put.inputs.Goals as goal
 
 pub returns : goal.returns

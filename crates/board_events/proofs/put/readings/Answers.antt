@@ -2,7 +2,6 @@
 use Rattle.sampling.specs.Sample.{settled}
 use Rattle.sheet.specs.Sheet.{axis}
 use Rattle.reg_image.proofs.Places.{then}
-use borrow.Author.Rules.{rules}
 use Rattle.board_events.proofs.put.readings.Goals as goal
 
 pub returns : goal.returns

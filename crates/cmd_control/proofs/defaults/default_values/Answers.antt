@@ -1,8 +1,7 @@
 -- `cmd_control::defaults::default_values`: The loop's invariant: all before the place are defaults.
-use Prim.Native.Nat.{ℕ, ◌-◌, ◌≤◌}
+use Prim.Native.Nat.{ℕ, ◌-◌}
 use mathlib.Core.Path.{◌≡◌, subst}
 use native.Mathlib.Omega.{arith}
-use borrow.Author.Rules.{rules}
 use Rattle.reg_image.specs.Image.{Leaves}
 use Rattle.cmd_control.specs.Defaults.{all_defaulted}
 use Rattle.cmd_control.proofs.Defaulting.{none_yet, one_more}

@@ -1,11 +1,7 @@
 -- `cmd_control::defaults::default_values`: The loop's invariant: all before the place are defaults.
-use Prim.Native.Nat.{ℕ, ◌-◌, ◌≤◌}
-use mathlib.Core.Path.{◌≡◌, subst}
-use native.Mathlib.Omega.{arith}
-use borrow.Author.Rules.{rules}
+use Prim.Native.Nat.{◌-◌, ◌≤◌}
 use Rattle.reg_image.specs.Image.{Leaves}
 use Rattle.cmd_control.specs.Defaults.{all_defaulted}
-use Rattle.cmd_control.proofs.Defaulting.{none_yet, one_more}
 use Rattle.cmd_control.proofs.defaults.default_values.Given as goal
 
 abbrev pub invariant-loop-place : goal.invariant-loop-place

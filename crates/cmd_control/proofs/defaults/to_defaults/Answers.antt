@@ -1,7 +1,6 @@
 -- `cmd_control::defaults::to_defaults`.
 use Rattle.rules.specs.Controlling.{defaults}
 use Rattle.reg_image.proofs.Places.{then}
-use borrow.Author.Rules.{rules}
 use Rattle.cmd_control.proofs.defaults.to_defaults.Goals as goal
 
 pub returns : goal.returns

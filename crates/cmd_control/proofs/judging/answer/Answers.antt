@@ -1,7 +1,6 @@
 -- `cmd_control::judging::answer`.
 use borrow.Author.Tests.{ne_eqb}
 use Rattle.rules.specs.Control.{answer}
-use borrow.Author.Rules.{rules}
 use Rattle.cmd_control.proofs.judging.answer.Goals as goal
 
 pub returns-in-134 : goal.returns-in-134

@@ -1,7 +1,6 @@
 -- `cmd_control::judging::show`.
 use borrow.Author.Tests.{eq-eqb, ne_eqb}
 use Rattle.rules.specs.Control.{shown}
-use borrow.Author.Rules.{rules}
 use Rattle.cmd_control.proofs.judging.show.Goals as goal
 
 pub returns-then-kind-eq0 : goal.returns-then-kind-eq0

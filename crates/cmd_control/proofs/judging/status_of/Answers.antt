@@ -1,7 +1,6 @@
 -- `cmd_control::judging::status_of`.
 use borrow.Author.Tests.{ne_eqb}
 use Rattle.rules.specs.Control.{judged}
-use borrow.Author.Rules.{rules}
 use Rattle.cmd_control.proofs.judging.status_of.Goals as goal
 
 pub returns-in-128 : goal.returns-in-128

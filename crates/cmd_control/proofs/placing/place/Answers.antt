@@ -2,7 +2,6 @@
 use borrow.Author.Tests.{ne_eqb}
 use Rattle.rules.specs.Control.{controlled}
 use Rattle.rules.specs.Controlling.{placed}
-use borrow.Author.Rules.{rules}
 use Rattle.cmd_control.proofs.placing.place.Goals as goal
 
 pub returns-in-128 : goal.returns-in-128

@@ -2,7 +2,6 @@
 use mathlib.Core.Path.{refl, sym, ◌∙◌}
 use borrow.Author.Tests.{eq-eqb, le-leb, lt-leb, ne_eqb}
 use Rattle.cmd_control.proofs.Storing.{none, shut, full, written}
-use borrow.Author.Rules.{rules}
 use Rattle.cmd_control.proofs.recording.store_record.Goals as goal
 
 pub returns-then-c-eq0 : goal.returns-then-c-eq0

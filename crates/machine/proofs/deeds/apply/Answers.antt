@@ -3,7 +3,6 @@ use mathlib.Core.Path.{refl}
 use borrow.Author.Tests.{lt-ltb}
 use Rattle.machine.proofs.Keeps.{same, by}
 use Rattle.cmd_turns.specs.Deed.{doing}
-use borrow.Author.Rules.{rules}
 use Rattle.machine.proofs.deeds.apply.Goals as goal
 
 pub returns-in-Refused : goal.returns-in-Refused

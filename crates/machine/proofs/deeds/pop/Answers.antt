@@ -1,11 +1,10 @@
 -- `machine::deeds::pop`.
 use Prim.Native.Nat.{◌<◌, ◌≤◌}
 use native.Mathlib.Omega.{arith}
-use mathlib.Core.Path.{◌≡◌, ap, ◌∙◌}
+use mathlib.Core.Path.{◌∙◌}
 use Rattle.reg_image.specs.Image.{registers_of}
 use Rattle.reg_image.proofs.Places.{then}
 use Rattle.machine.proofs.Stack.{pop_empty, pop-over, pop-stack, pop-back}
-use borrow.Author.Rules.{rules}
 use Rattle.machine.proofs.deeds.pop.Goals as goal
 
 pub returns-then-depth-eq0 : goal.returns-then-depth-eq0

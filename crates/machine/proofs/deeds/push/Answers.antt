@@ -1,11 +1,8 @@
 -- `machine::deeds::push`.
-use mathlib.Core.Path.{◌≡◌, ap, ◌∙◌}
-use Rattle.registers.specs.Registers.{with_depth}
-use Rattle.reg_image.specs.With.{in_core}
+use mathlib.Core.Path.{◌∙◌}
 use Rattle.reg_image.specs.Image.{registers_of}
 use Rattle.reg_image.proofs.Places.{then}
 use Rattle.machine.proofs.Stack.{push-none, push-some}
-use borrow.Author.Rules.{rules}
 use Rattle.machine.proofs.deeds.push.Goals as goal
 
 pub returns-then-depth-lt8 : goal.returns-then-depth-lt8

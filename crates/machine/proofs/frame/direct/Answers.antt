@@ -1,22 +1,13 @@
 -- `machine::frame::direct`.
-use mathlib.Core.Path.{◌≡◌, refl, sym, ap, ◌∙◌}
-use mathlib.Core.Bool.{Bool, true, false, ◌&&◌}
-use mathlib.Core.List.{List}
-use Prim.Native.Nat.{ℕ}
+use mathlib.Core.Path.{refl, sym, ◌∙◌}
+use mathlib.Core.Bool.{true, false}
 use borrow.Author.Tests.{eqb-true}
 use lib.Dec.{eqb}
 use Rattle.words.proofs.Bools.{each}
 use Rattle.wire.specs.Frame.{command_at}
-use Rattle.wire.specs.declared.Command.{Command}
 use Rattle.judge.specs.Judge.{is_flow}
-use Rattle.rules.specs.Outcome.{Changed}
-use Rattle.rules.specs.Obey as obeying
-use Rattle.reg_image.specs.Image.{registers_of}
-use Rattle.cmd_turns.specs.declared.Obeyed.{Obeyed}
-use Rattle.cmd_turns.specs.Obeys.{Obeys}
 use Rattle.machine.proofs.Framed.{behind}
 use Rattle.machine.proofs.Shown.{flow-refused}
-use borrow.Author.Rules.{rules}
 use Rattle.machine.proofs.frame.direct.Goals as goal
 
 pub returns-then-frame-ne9 : goal.returns-then-frame-ne9

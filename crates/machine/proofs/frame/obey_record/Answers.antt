@@ -8,7 +8,6 @@ use Rattle.cmd_turns.specs.declared.Obeyed.{Obeyed}
 use Rattle.machine.specs.Direct.{answer}
 use Rattle.machine.proofs.Blind.{when-refused, when-read, when-worked}
 use Rattle.machine.proofs.Framed.{behind, one-record}
-use borrow.Author.Rules.{rules}
 use Rattle.machine.proofs.frame.obey_record.Goals as goal
 
 pub returns-then-not-is_done : goal.returns-then-not-is_done

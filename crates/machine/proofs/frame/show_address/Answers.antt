@@ -1,9 +1,7 @@
 -- `machine::frame::show_address`.
-use mathlib.Core.Path.{◌≡◌, refl, sym, ap, ◌∙◌}
-use mathlib.Core.Bool.{Bool, true, false}
+use mathlib.Core.Path.{sym, ◌∙◌}
 use borrow.Author.Tests.{not-true, not-false}
 use Rattle.machine.proofs.Shown.{shown, not-shown}
-use borrow.Author.Rules.{rules}
 use Rattle.machine.proofs.frame.show_address.Goals as goal
 
 pub returns-then-not-is_done : goal.returns-then-not-is_done

@@ -1,7 +1,7 @@
 -- `machine::program::run`.
-use Prim.Native.Nat.{ℕ, ◌-◌, ◌<◌, ◌≤◌}
+use Prim.Native.Nat.{ℕ, ◌-◌, ◌<◌}
 use native.Mathlib.Omega.{arith}
-use mathlib.Core.Path.{◌≡◌, refl, sym, ap, ◌∙◌}
+use mathlib.Core.Path.{refl, sym, ap, ◌∙◌}
 use borrow.Author.Tests.{not-true, not-false}
 use Rattle.status.specs.declared.Status.TheVariants.{Done}
 use Rattle.rules.specs.Steps as board
@@ -11,7 +11,6 @@ use Rattle.cmd_turns.specs.Turn.{turn}
 use Rattle.machine.specs.declared.Made.{Made}
 use Rattle.machine.specs.Alone.{readied}
 use Rattle.machine.proofs.Runs.{unused-low, steps-are, not-running, no-budget}
-use borrow.Author.Rules.{rules}
 use Rattle.machine.proofs.program.run.Goals as goal
 
 pub returns-then-program-ne7168 : goal.returns-then-program-ne7168

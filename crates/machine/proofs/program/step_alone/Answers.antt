@@ -1,9 +1,8 @@
 -- `machine::program::step_alone`.
-use mathlib.Core.Path.{◌≡◌, refl, sym, ap, ◌∙◌}
+use mathlib.Core.Path.{refl, sym, ap, ◌∙◌}
 use Rattle.rules.specs.Steps as board
 use Rattle.reg_image.specs.Image.{registers_of}
 use Rattle.machine.proofs.Runs.{alone-is}
-use borrow.Author.Rules.{rules}
 use Rattle.machine.proofs.program.step_alone.Goals as goal
 
 pub returns-then-program-ne7168 : goal.returns-then-program-ne7168

@@ -1,7 +1,6 @@
 -- `machine::program::walk`.
-use Prim.Native.Nat.{ℕ, ◌≤◌}
-use mathlib.Core.Path.{◌≡◌, refl, sym, ap, ◌∙◌}
-use native.Mathlib.Omega.{arith}
+use Prim.Native.Nat.{ℕ}
+use mathlib.Core.Path.{◌≡◌, ap, ◌∙◌}
 use Rattle.words.specs.declared.Word.{Word}
 use Rattle.status.specs.declared.Status.TheVariants.{Done}
 use Rattle.board.specs.declared.Registers.{Registers}
@@ -10,8 +9,7 @@ use Rattle.cmd_turns.specs.declared.Left.TheVariants.{Goes}
 use Rattle.cmd_turns.specs.Turn.{turn}
 use Rattle.cmd_turns.specs.Deed.{seen}
 use Rattle.machine.specs.Steps.{Walk, going}
-use Rattle.machine.specs.Alone.{readied, ended}
-use borrow.Author.Rules.{rules}
+use Rattle.machine.specs.Alone.{ended}
 use Rattle.machine.proofs.program.walk.Goals as goal
 
 as-it-is : (r : Registers) (w : Word) (n : ℕ) → w ≡ r.core.accumulator → n ≡ r.core.address → seen w n r ≡ r

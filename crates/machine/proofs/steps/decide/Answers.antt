@@ -14,7 +14,6 @@ use Rattle.reg_image.specs.Image.{registers_of}
 use Rattle.cmd_turns.specs.Turn.{turned, through, flowed}
 use Rattle.cmd_turns.specs.Deed.{doing, seen}
 use Rattle.cmd_turns.specs.declared.Deed.TheVariants.{Nothing}
-use borrow.Author.Rules.{rules}
 use Rattle.machine.proofs.steps.decide.Goals as goal
 
 -- what the judge does not know stops

@@ -1,8 +1,7 @@
 -- `machine::steps::go`: The loop's invariant: what is left of the budget, from here on, comes to what all of it comes to.
-use mathlib.Core.Path.{◌≡◌, refl, sym, ◌∙◌}
+use mathlib.Core.Path.{◌≡◌}
 use mathlib.Core.Bool.{true}
 use lib.ListN.{length}
-use borrow.Author.Tests.{not-true, not-false}
 use Rattle.status.specs.declared.Status.TheVariants.{Done}
 use Rattle.cmd_turns.specs.declared.Left.TheVariants.{Goes}
 use Rattle.cmd_turns.specs.Turn.{turn}
@@ -10,9 +9,6 @@ use Rattle.cmd_turns.specs.Deed.{seen}
 use Rattle.reg_image.specs.Image.{registers_of, shaped}
 use Rattle.machine.specs.Applied.{Kept}
 use Rattle.machine.specs.Steps.{going}
-use Rattle.machine.proofs.Keeps.{same, both}
-use Rattle.machine.proofs.Goings.{over, past, again, ended}
-use borrow.Author.Rules.{rules}
 use Rattle.machine.proofs.steps.go.Given as goal
 
 abbrev pub invariant-loop-unused : goal.invariant-loop-unused

@@ -6,7 +6,6 @@ use borrow.Author.Tests.{lt-leb, lt-ltb}
 use Rattle.words.proofs.Parts.{byte-part}
 use Rattle.wire.proofs.Parts.{command-part}
 use Rattle.machine.specs.Steps.{step_turn}
-use borrow.Author.Rules.{rules}
 use Rattle.machine.proofs.steps.step.Goals as goal
 
 pub decide-deed-requires : goal.decide-deed-requires

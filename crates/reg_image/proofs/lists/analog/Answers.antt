@@ -1,10 +1,7 @@
-
 use mathlib.Core.Path.{sym, ap, ◌∙◌}
 use borrow.Author.Tests.{lt-ltb, le-ltb}
-use lib.IntN.{ℤ}
 use Rattle.words.specs.Word.{word, of_bits}
 use Rattle.reg_image.proofs.Laws.{analog-at}
-use borrow.Author.Rules.{rules}
 use Rattle.reg_image.proofs.lists.analog.Goals as goal
 
 pub returns-then-port-lt3 : goal.returns-then-port-lt3

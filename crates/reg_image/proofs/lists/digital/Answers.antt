@@ -1,8 +1,6 @@
-
 use mathlib.Core.Path.{sym, ◌∙◌}
 use borrow.Author.Tests.{lt-ltb, le-ltb}
 use Rattle.reg_image.proofs.Laws.{digital-at}
-use borrow.Author.Rules.{rules}
 use Rattle.reg_image.proofs.lists.digital.Goals as goal
 
 pub returns-then-port-lt2 : goal.returns-then-port-lt2

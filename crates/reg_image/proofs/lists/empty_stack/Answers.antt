@@ -1,15 +1,12 @@
-
-use mathlib.Core.Path.{◌≡◌, ap, ◌∙◌}
+use mathlib.Core.Path.{ap, ◌∙◌}
 use mathlib.Core.List.{List}
 use Prim.Native.Nat.{ℕ}
 use native.Mathlib.Omega.{arith}
-use Rattle.board.specs.declared.Registers.{Registers}
 use Rattle.registers.specs.Registers.{with_depth}
 use Rattle.reg_image.specs.With.{in_core, with_entries}
 use Rattle.reg_image.specs.Image.{registers_of, Leaves}
 use Rattle.reg_image.proofs.Places.{shaped-behind, then}
 use Rattle.reg_image.proofs.Laws.{depth-set, entries-length, cleared}
-use borrow.Author.Rules.{rules}
 use Rattle.reg_image.proofs.lists.empty_stack.Goals as goal
 
 pub returns : goal.returns

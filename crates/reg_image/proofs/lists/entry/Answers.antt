@@ -1,8 +1,6 @@
-
 use mathlib.Core.Path.{sym, ◌∙◌}
 use borrow.Author.Tests.{lt-ltb, le-ltb}
 use Rattle.reg_image.proofs.Laws.{entry_at}
-use borrow.Author.Rules.{rules}
 use Rattle.reg_image.proofs.lists.entry.Goals as goal
 
 pub returns-then-at-lt8 : goal.returns-then-at-lt8

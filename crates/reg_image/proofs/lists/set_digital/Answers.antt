@@ -1,11 +1,8 @@
-
 use native.Mathlib.Omega.{arith}
-use Prim.Native.Nat.{◌+◌, ◌<◌}
-use mathlib.Core.Path.{refl}
+use Prim.Native.Nat.{◌+◌}
 use borrow.Author.Tests.{lt-ltb, le-ltb}
 use Rattle.reg_image.proofs.Places.{shaped-behind}
 use Rattle.reg_image.proofs.Laws.{digital-set}
-use borrow.Author.Rules.{rules}
 use Rattle.reg_image.proofs.lists.set_digital.Goals as goal
 
 pub returns-then-port-lt2 : goal.returns-then-port-lt2

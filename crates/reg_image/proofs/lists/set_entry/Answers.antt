@@ -1,11 +1,8 @@
-
 use native.Mathlib.Omega.{arith}
-use Prim.Native.Nat.{◌+◌, ◌<◌}
-use mathlib.Core.Path.{refl}
+use Prim.Native.Nat.{◌+◌}
 use borrow.Author.Tests.{lt-ltb, le-ltb}
 use Rattle.reg_image.proofs.Places.{shaped-behind}
 use Rattle.reg_image.proofs.Laws.{entry_set}
-use borrow.Author.Rules.{rules}
 use Rattle.reg_image.proofs.lists.set_entry.Goals as goal
 
 pub returns-then-at-lt8 : goal.returns-then-at-lt8

@@ -1,11 +1,9 @@
-
-use Prim.Native.Nat.{◌+◌, ◌-◌, ◌<◌}
+use Prim.Native.Nat.{◌-◌, ◌<◌}
 use native.Mathlib.Omega.{arith}
-use mathlib.Core.Path.{◌≡◌, sym, ap, ◌∙◌}
+use mathlib.Core.Path.{sym, ap, ◌∙◌}
 use borrow.Author.Tests.{lt-ltb, le-ltb}
 use Rattle.words.specs.Word.{word, of_bits}
 use Rattle.reg_image.proofs.Laws.{axis-at, rest-value}
-use borrow.Author.Rules.{rules}
 use Rattle.reg_image.proofs.lists.value.Goals as goal
 
 pub returns-then-place-lt43 : goal.returns-then-place-lt43

@@ -1,7 +1,5 @@
-
 use Rattle.reg_image.specs.Image.{registers_of}
 use mathlib.Core.Path.{refl}
-use borrow.Author.Rules.{rules}
 use Rattle.reg_image.proofs.scalars.downloading.Goals as goal
 
 pub returns : goal.returns

@@ -1,6 +1,4 @@
-
 use Rattle.reg_image.specs.Image.{registers_of}
-use borrow.Author.Rules.{rules}
 use Rattle.reg_image.proofs.scalars.motion_order.Goals as goal
 
 pub returns : goal.returns

@@ -1,4 +1,3 @@
-
 use mir.Syntax.{w32}
 use mir.ValLaws.{to_z-of_z}
 use Rattle.reg_image.proofs.Laws.{accumulator-set}

@@ -1,8 +1,6 @@
-
 use Rattle.reg_image.proofs.Laws.{count_set}
 use mathlib.Core.Path.{refl}
 use Rattle.reg_image.proofs.Places.{shaped-set}
-use borrow.Author.Rules.{rules}
 use Rattle.reg_image.proofs.scalars.set_count.Goals as goal
 
 pub returns : goal.returns

@@ -1,9 +1,6 @@
-
 use Rattle.reg_image.proofs.Laws.{depth-set}
-use mathlib.Core.Path.{refl}
 use Rattle.reg_image.proofs.Places.{shaped-behind}
 use native.Mathlib.Omega.{arith}
-use borrow.Author.Rules.{rules}
 use Rattle.reg_image.proofs.scalars.set_depth.Goals as goal
 
 pub returns : goal.returns

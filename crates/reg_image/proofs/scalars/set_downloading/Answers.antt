@@ -1,7 +1,5 @@
-
 use Rattle.reg_image.proofs.Laws.{download-set}
 use Rattle.reg_image.proofs.Places.{shaped-set}
-use borrow.Author.Rules.{rules}
 use Rattle.reg_image.proofs.scalars.set_downloading.Goals as goal
 
 pub returns : goal.returns

@@ -1,8 +1,6 @@
-
 use Rattle.reg_image.proofs.Laws.{eal-set}
 use mathlib.Core.Path.{refl}
 use Rattle.reg_image.proofs.Places.{shaped-set}
-use borrow.Author.Rules.{rules}
 use Rattle.reg_image.proofs.scalars.set_eal.Goals as goal
 
 pub returns : goal.returns

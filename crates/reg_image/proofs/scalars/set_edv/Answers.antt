@@ -1,8 +1,6 @@
-
 use Rattle.reg_image.proofs.Laws.{edv-set}
 use mathlib.Core.Path.{refl}
 use Rattle.reg_image.proofs.Places.{shaped-set}
-use borrow.Author.Rules.{rules}
 use Rattle.reg_image.proofs.scalars.set_edv.Goals as goal
 
 pub returns : goal.returns

@@ -1,8 +1,6 @@
-
 use Rattle.reg_image.proofs.Laws.{epo-set}
 use mathlib.Core.Path.{refl}
 use Rattle.reg_image.proofs.Places.{shaped-set}
-use borrow.Author.Rules.{rules}
 use Rattle.reg_image.proofs.scalars.set_epo.Goals as goal
 
 pub returns : goal.returns

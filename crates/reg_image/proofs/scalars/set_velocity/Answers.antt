@@ -1,8 +1,6 @@
-
 use mir.Syntax.{w32}
 use mir.ValLaws.{to_z-of_z}
 use Rattle.reg_image.proofs.Laws.{velocity-set}
-use mathlib.Core.Path.{refl}
 use Rattle.reg_image.proofs.Places.{shaped-behind}
 use native.Mathlib.Omega.{arith}
 use borrow.Author.Rules.{rules}

@@ -1,6 +1,5 @@
 -- `sampling::Sample::in_range`.
 use mathlib.Core.Path.{sym, ◌∙◌}
-use borrow.Author.Rules.{rules}
 use borrow.Author.Tests.{not-true, not-false}
 use Rattle.words.proofs.Bools.{all_three, not_first, not-second}
 use Rattle.pins.specs.Pins.{inputs_in_range, signals_in_range}

@@ -1,6 +1,5 @@
 -- `sampling::settings_in_range`.
 use Rattle.sampling.proofs.Turns.{all_found}
-use borrow.Author.Rules.{rules}
 use Rattle.sampling.proofs.settings.settings_in_range.Goals as goal
 
 pub returns : goal.returns

@@ -2,7 +2,6 @@
 use native.Mathlib.Nat.{zero-add}
 use mathlib.Core.Path.{ap, ◌∙◌}
 use lib.ListN.{replicate}
-use borrow.Author.Rules.{rules}
 use Rattle.sheet.specs.Line.{lines}
 use Rattle.sheet.specs.Rows.{parameters, rows, cell_of}
 use Rattle.sheet.specs.Sheet.{axis, globals, user_row, rwe_rows, rw_rows, r_rows}

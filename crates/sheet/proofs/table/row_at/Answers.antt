@@ -2,7 +2,6 @@
 use Prim.Native.Nat.{◌-◌}
 use mathlib.Core.Path.{sym, ap, ◌∙◌}
 use lib.ListN.{replicate}
-use borrow.Author.Rules.{rules}
 use Rattle.words.proofs.Lists.{all_same}
 use Rattle.sheet.specs.Line.{lines, row_of}
 use Rattle.sheet.specs.Rows.{parameters, rows}

@@ -1,5 +1,4 @@
 -- `text::print::put`.
-use borrow.Author.Rules.{rules}
 use borrow.Author.Tests.{lt-ltb, le-ltb}
 use Rattle.text.proofs.print.put.Goals as goal
 

@@ -1,8 +1,7 @@
 -- `text::print::put_all`: The loop's invariant: the bytes from here on leave what all leave.
-use Prim.Native.Nat.{◌-◌, ◌+◌, ◌≤◌}
-use borrow.Author.Rules.{rules}
-use lib.ListN.{length, drop, get_or}
-use Rattle.text.proofs.Putting.{Left, all_left, one-put, none_left, same_left, next, no-next}
+use Prim.Native.Nat.{◌-◌, ◌≤◌}
+use lib.ListN.{length, drop}
+use Rattle.text.proofs.Putting.{Left}
 use Rattle.text.proofs.print.put_all.Given as goal
 
 abbrev pub invariant-loop-i : goal.invariant-loop-i

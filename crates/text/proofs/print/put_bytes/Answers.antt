@@ -1,12 +1,12 @@
 -- `text::print::put_bytes`: The loop's invariant: the pairs of the bytes from here on leave what all leave.
-use Prim.Native.Nat.{◌-◌, ◌+◌, ◌/◌, ◌%◌, ◌≤◌, ◌<◌}
+use Prim.Native.Nat.{◌+◌, ◌/◌, ◌%◌, ◌<◌}
 use Rattle.text.specs.Put.{hex_digit, pairs_for}
 use borrow.Author.Rules.{rules}
-use lib.ListN.{length, drop, get_or}
+use lib.ListN.{drop, get_or}
 use mathlib.Core.List.{◌∷◌}
 use mathlib.Core.Path.{◌≡◌, ap, ◌∙◌}
 use native.Mathlib.Omega.{arith}
-use Rattle.text.proofs.Putting.{Left, all_left, one-put, none_left, then-put, same_left, next, no-next, some, no_bytes, table}
+use Rattle.text.proofs.Putting.{all_left, one-put, none_left, then-put, same_left, next, no-next, some, no_bytes, table}
 use Rattle.text.proofs.print.put_bytes.Goals as goal
 
 pub returns-then-bytes-eq0 : goal.returns-then-bytes-eq0

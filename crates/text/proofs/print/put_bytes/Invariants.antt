@@ -1,12 +1,8 @@
 -- `text::print::put_bytes`: The loop's invariant: the pairs of the bytes from here on leave what all leave.
-use Prim.Native.Nat.{◌-◌, ◌+◌, ◌/◌, ◌%◌, ◌≤◌, ◌<◌}
-use Rattle.text.specs.Put.{hex_digit, pairs_for}
-use borrow.Author.Rules.{rules}
-use lib.ListN.{length, drop, get_or}
-use mathlib.Core.List.{◌∷◌}
-use mathlib.Core.Path.{◌≡◌, ap, ◌∙◌}
-use native.Mathlib.Omega.{arith}
-use Rattle.text.proofs.Putting.{Left, all_left, one-put, none_left, then-put, same_left, next, no-next, some, no_bytes, table}
+use Prim.Native.Nat.{◌-◌, ◌≤◌}
+use Rattle.text.specs.Put.{pairs_for}
+use lib.ListN.{length, drop}
+use Rattle.text.proofs.Putting.{Left}
 use Rattle.text.proofs.print.put_bytes.Given as goal
 
 abbrev pub invariant-loop-i : goal.invariant-loop-i

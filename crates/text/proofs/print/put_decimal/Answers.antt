@@ -1,5 +1,4 @@
 -- `text::print::put_decimal`.
-use borrow.Author.Rules.{rules}
 use Rattle.text.proofs.Putting.{small}
 use Rattle.text.proofs.print.put_decimal.Goals as goal
 

@@ -1,5 +1,4 @@
 -- `text::print::put_number`.
-use borrow.Author.Rules.{rules}
 use Rattle.text.proofs.Putting.{then-put}
 use Rattle.text.proofs.print.put_number.Goals as goal
 

@@ -1,9 +1,9 @@
 -- `text::print::put_spelt`: The loop's invariant: the bytes from here on leave what all leave.
-use Prim.Native.Nat.{ℕ, ◌-◌, ◌+◌, ◌≤◌, ◌<◌}
+use Prim.Native.Nat.{ℕ, ◌+◌, ◌≤◌, ◌<◌}
 use borrow.Author.Rules.{rules}
-use lib.ListN.{length, drop, get_or}
-use mathlib.Core.Path.{◌≡◌, sym, subst}
-use Rattle.text.proofs.Putting.{Left, all_left, one-put, none_left, same_left, next, no-next}
+use lib.ListN.{drop, get_or}
+use mathlib.Core.Path.{sym, subst}
+use Rattle.text.proofs.Putting.{all_left, one-put, none_left, same_left, next, no-next}
 use Rattle.text.proofs.print.put_spelt.Goals as goal
 
 pub loop-i-init : goal.loop-i-init

@@ -1,9 +1,8 @@
 -- `text::print::put_spelt`: The loop's invariant: the bytes from here on leave what all leave.
-use Prim.Native.Nat.{ℕ, ◌-◌, ◌+◌, ◌≤◌, ◌<◌}
-use borrow.Author.Rules.{rules}
-use lib.ListN.{length, drop, get_or}
-use mathlib.Core.Path.{◌≡◌, sym, subst}
-use Rattle.text.proofs.Putting.{Left, all_left, one-put, none_left, same_left, next, no-next}
+use Prim.Native.Nat.{◌-◌, ◌≤◌}
+use lib.ListN.{length, drop}
+use mathlib.Core.Path.{◌≡◌}
+use Rattle.text.proofs.Putting.{Left}
 use Rattle.text.proofs.print.put_spelt.Given as goal
 
 abbrev pub invariant-loop-i : goal.invariant-loop-i

@@ -1,11 +1,8 @@
 -- `text::print::spell`: The loop's invariant: the digits that are left, before those that stand, are all.
-use Prim.Native.Nat.{ℕ, ◌≤◌}
+use Prim.Native.Nat.{◌≤◌}
 use Rattle.text.specs.Put.{digits_before, decimal}
-use borrow.Author.Rules.{rules}
-use lib.ListN.{length, drop, length-set}
-use mathlib.Core.Path.{◌≡◌, sym, ap, ◌∙◌}
-use native.Mathlib.Omega.{arith}
-use Rattle.text.proofs.Putting.{no-next, digit-more, last-digit}
+use lib.ListN.{length, drop}
+use mathlib.Core.Path.{◌≡◌}
 use Rattle.text.proofs.print.spell.Given as goal
 
 abbrev pub invariant-loop-at : goal.invariant-loop-at

@@ -1,6 +1,5 @@
 -- `text::scan::behind_space`.
 use Rattle.text.specs.Line.{behind_space}
-use borrow.Author.Rules.{rules}
 use borrow.Author.Tests.{ne_eqb}
 use lib.ListN.{get_or-eq_default}
 use Rattle.text.proofs.scan.behind_space.Goals as goal

@@ -1,10 +1,9 @@
 -- `text::scan::digits`: The loop's invariant: what the digits from here on make of the number so far is what all make.
-use Prim.Native.Nat.{ℕ, ◌+◌, ◌-◌, ◌≤◌}
+use Prim.Native.Nat.{ℕ, ◌+◌}
 use Rattle.text.specs.Beneath.{spelt_at}
 use borrow.Author.Rules.{rules}
 use borrow.Author.Tests.{not-true, not-false}
-use lib.ListN.{length}
-use mathlib.Core.Path.{◌≡◌, refl, sym, ap, ◌∙◌}
+use mathlib.Core.Path.{refl, sym, ap, ◌∙◌}
 use Rattle.text.proofs.Reading.{going, goes_on, ends, no_digit, no_more}
 use Rattle.text.proofs.scan.digits.Goals as goal
 

@@ -1,11 +1,8 @@
 -- `text::scan::digits`: The loop's invariant: what the digits from here on make of the number so far is what all make.
-use Prim.Native.Nat.{ℕ, ◌+◌, ◌-◌, ◌≤◌}
-use Rattle.text.specs.Beneath.{spelt_at}
-use borrow.Author.Rules.{rules}
-use borrow.Author.Tests.{not-true, not-false}
+use Prim.Native.Nat.{◌-◌, ◌≤◌}
 use lib.ListN.{length}
-use mathlib.Core.Path.{◌≡◌, refl, sym, ap, ◌∙◌}
-use Rattle.text.proofs.Reading.{going, goes_on, ends, no_digit, no_more}
+use mathlib.Core.Path.{◌≡◌}
+use Rattle.text.proofs.Reading.{going}
 use Rattle.text.proofs.scan.digits.Given as goal
 
 abbrev pub invariant-loop-at : goal.invariant-loop-at

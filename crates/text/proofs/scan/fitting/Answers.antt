@@ -1,5 +1,4 @@
 -- `text::scan::fitting`.
-use borrow.Author.Rules.{rules}
 use borrow.Author.Tests.{le-ltb, eq-eqb, ne_eqb, not-true, not-false}
 use mathlib.Core.Path.{◌∙◌}
 use Rattle.text.proofs.Reading.{over, within}

@@ -1,5 +1,4 @@
 -- `text::scan::grown`.
-use borrow.Author.Rules.{rules}
 use borrow.Author.Tests.{lt-ltb, le-ltb}
 use Rattle.text.proofs.scan.grown.Goals as goal
 

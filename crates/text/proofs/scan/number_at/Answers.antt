@@ -2,7 +2,6 @@
 use Prim.Native.Nat.{◌+◌}
 use Rattle.text.specs.Numbers.{fitting}
 use Rattle.text.specs.declared.scan.Spelt.{Spelt}
-use borrow.Author.Rules.{rules}
 use mathlib.Core.Bool.{true, false}
 use mathlib.Core.Path.{sym, ap, ◌∙◌}
 use Rattle.text.proofs.Reading.{no_word, no_byte, with-minus, with_none}

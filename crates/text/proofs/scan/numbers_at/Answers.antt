@@ -1,5 +1,5 @@
 -- `text::scan::numbers_at`: The loop's invariant: the numbers from here on make what all make.
-use Prim.Native.Nat.{ℕ, ◌+◌, ◌-◌, ◌≤◌, ◌<◌}
+use Prim.Native.Nat.{ℕ, ◌+◌, ◌-◌, ◌<◌}
 use Rattle.text.specs.Numbers.{is_word, word_of, row_from, row_at, number_at}
 use Rattle.text.specs.declared.scan.Number.{Number}
 use Rattle.words.specs.declared.Word.{Word}

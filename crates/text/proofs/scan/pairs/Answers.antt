@@ -1,8 +1,8 @@
 -- `text::scan::pairs`: The loop's invariant: the pairs from here on, with the bytes so far, make what all make.
-use Prim.Native.Nat.{ℕ, ◌+◌, ◌-◌, ◌*◌, ◌≤◌, ◌<◌}
+use Prim.Native.Nat.{ℕ, ◌+◌, ◌*◌, ◌≤◌, ◌<◌}
 use Rattle.text.specs.Hex.{digit_value, pairs_of}
 use borrow.Author.Rules.{rules}
-use lib.ListN.{length, get_or, set, drop}
+use lib.ListN.{get_or, set, drop}
 use mathlib.Core.Path.{◌≡◌, refl, sym, ap, subst, ◌∙◌}
 use Rattle.text.proofs.Pairs.{at-end, full, odd, no-high, no-low, one-pair, took, refused}
 use Rattle.text.proofs.scan.pairs.Goals as goal

@@ -1,10 +1,8 @@
 -- `text::scan::pairs`: The loop's invariant: the pairs from here on, with the bytes so far, make what all make.
-use Prim.Native.Nat.{ℕ, ◌+◌, ◌-◌, ◌*◌, ◌≤◌, ◌<◌}
-use Rattle.text.specs.Hex.{digit_value, pairs_of}
-use borrow.Author.Rules.{rules}
-use lib.ListN.{length, get_or, set, drop}
-use mathlib.Core.Path.{◌≡◌, refl, sym, ap, subst, ◌∙◌}
-use Rattle.text.proofs.Pairs.{at-end, full, odd, no-high, no-low, one-pair, took, refused}
+use Prim.Native.Nat.{◌-◌, ◌≤◌}
+use Rattle.text.specs.Hex.{pairs_of}
+use lib.ListN.{length, drop}
+use mathlib.Core.Path.{◌≡◌}
 use Rattle.text.proofs.scan.pairs.Given as goal
 
 abbrev pub invariant-loop-at : goal.invariant-loop-at

@@ -1,8 +1,5 @@
 -- `wire::frame::put_seven`.
-use borrow.Author.Rules.{rules}
 use native.Mathlib.Nat.{add_assoc}
-use native.Mathlib.Omega.{arith}
-use lib.ListN.{length-set}
 use Rattle.words.specs.Bytes.{put_word}
 use Rattle.wire.specs.Frame.{put_seven}
 use Rattle.wire.proofs.frame.put_seven.Goals as goal

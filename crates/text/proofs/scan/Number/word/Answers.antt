@@ -1,6 +1,5 @@
 -- `text::scan::Number::word`.
 use Rattle.text.specs.Numbers.{word_of}
-use borrow.Author.Rules.{rules}
 use mathlib.Core.Path.{◌∙◌}
 use Rattle.text.proofs.scan.Number.word.Goals as goal
 

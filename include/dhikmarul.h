@@ -16,7 +16,7 @@
  * (or its array's size) says, what is written is lent to nobody else meanwhile, and no pointer is null
  * unless its length is 0. Two calls on different boards may run at once.
  *
- * Build: `rt staticlib dhikmarul`, then link target/staticlib/libdhikmarul.a (x86-64).
+ * Build: `rt lib` in crates/dhikmarul, then link crates/dhikmarul/out/libdhikmarul.a (x86-64).
  */
 #ifndef DHIKMARUL_H
 #define DHIKMARUL_H

@@ -2,8 +2,8 @@
 //!
 //! It is looked for in the folder named by the environment variable
 //! `DHIKMARUL_LIB` (a relative one counts from this package), else where
-//! `rt staticlib dhikmarul` puts it: in `target/staticlib` of the repository
-//! this package stands in.
+//! `rt lib` in `crates/dhikmarul` puts it: in `crates/dhikmarul/out` of the
+//! repository this package stands in.
 
 use std::env;
 use std::path::PathBuf;
@@ -22,7 +22,7 @@ fn main() {
     if !archive.is_file() {
         eprintln!(
             "error: {} is missing.\n\
-             Build it with `rt staticlib dhikmarul` in the repository's root,\n\
+             Build it with `rt lib` in the repository's folder crates/dhikmarul,\n\
              or name the folder that holds {ARCHIVE} in {FOLDER_VARIABLE}.",
             archive.display()
         );
@@ -39,6 +39,6 @@ fn archive_folder() -> PathBuf {
     match env::var_os(FOLDER_VARIABLE) {
         // Joining an absolute folder gives that folder.
         Some(folder) => package.join(folder),
-        None => package.join("..").join("target").join("staticlib"),
+        None => package.join("..").join("crates").join("dhikmarul").join("out"),
     }
 }

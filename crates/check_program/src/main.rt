@@ -12,7 +12,7 @@ use std::rt::{Env, Files};
 use std::{fs, io};
 
 // One byte more than a program store has, so that a longer image is seen to be one.
-const MOST: u64 = 7169;
+const MOST: usize = 7169;
 
 // The record at an address: zeros where the image ends before it.
 fn record_at(image: &[u8], address: u16) -> [u8; 7] {
@@ -65,10 +65,10 @@ fn tell(rt: &impl Print, image: &[u8]) {
 }
 
 // A file that goes on behind so many bytes is no image, so no more of it is read.
-fn read_image<F: Read + Drop>(rt: &(impl Print + AllocGlobal), file: F) {
-    let mut image = Vec::new(rt.alloc());
-    match file.take(MOST).read_to_end(&mut image) {
-        Ok(_) => tell(rt, image.as_slice()),
+fn read_image<F: Read + Drop>(rt: &impl Print, mut file: F) {
+    let mut image = [0u8; MOST];
+    match streams::fill(&mut file, &mut image) {
+        Ok(n) => tell(rt, &image[..n]),
         Err(error) => reason::unread(rt, error.raw_os_error()),
     }
 }
@@ -81,7 +81,7 @@ fn open<R: Files>(rt: &R, name: &[u8]) -> io::Result<R::File> {
     }
 }
 
-fn open_image(rt: &(impl Files + Print + AllocGlobal), name: &[u8]) {
+fn open_image(rt: &(impl Files + Print), name: &[u8]) {
     match open(rt, name) {
         Ok(file) => read_image(rt, file),
         Err(error) => reason::unread(rt, error.raw_os_error()),
@@ -89,7 +89,7 @@ fn open_image(rt: &(impl Files + Print + AllocGlobal), name: &[u8]) {
 }
 
 // The image that an argument names. Its line begins with the name where there are more images.
-fn answer(rt: &(impl Env + Files + Print + AllocGlobal), argument: usize, named: bool) {
+fn answer(rt: &(impl Env + Files + Print), argument: usize, named: bool) {
     let mut name = [0u8; 4096];
     let given = rt.arg(argument, &mut name);
     let n = match given {

@@ -12,11 +12,10 @@ mod script;
 use reg_image::REGISTERS;
 use script::Line;
 use std::io;
-use std::io::Read;
 use std::num::wrapping_add_u64;
 
 // One byte more than a script may have, so that a longer one is seen to be one.
-const MOST: u64 = 65536;
+const MOST: usize = 65536;
 
 // Where the line that begins at a place ends: at its line feed, or at the script's end.
 fn line_end(script: &[u8], from: usize) -> usize
@@ -98,15 +97,15 @@ fn play(
 }
 
 fn main(rt: HostRuntime) -> io::Result<()> {
-    let mut script = Vec::new(rt.alloc());
-    rt.reader().take(MOST).read_to_end(&mut script)?;
-    if script.len() == 65536 {
+    let mut script = [0u8; MOST];
+    let n = streams::fill(&mut rt.reader(), &mut script)?;
+    if n == MOST {
         print::text(&rt, b"the script is too long: it may have 65535 bytes\n");
         return Ok(());
     }
     let mut program = [0u8; 7168];
     let mut cells = [0u8; 364];
     let mut reply = [0u8; 9];
-    play(&rt, script.as_slice(), &mut program, &mut cells, &mut reply);
+    play(&rt, &script[..n], &mut program, &mut cells, &mut reply);
     Ok(())
 }

@@ -142,7 +142,7 @@ fn written(rt: &impl Print, stderr: &impl Print, out: &[u8], at: usize) -> bool 
     match rt.write_all(&out[..n]) {
         Ok(()) => true,
         Err(error) => {
-            failing::tell(stderr, b"standard output", &error);
+            streams::tell(stderr, b"standard output", &error);
             false
         }
     }
@@ -207,7 +207,7 @@ fn more(rt: &impl Input, stderr: &impl Print, input: &mut [u8], before: Reading)
             open: 0 < n,
         },
         Err(error) => {
-            failing::tell(stderr, b"standard input", &error);
+            streams::tell(stderr, b"standard input", &error);
             ended(before.number)
         }
     }

@@ -5,8 +5,7 @@
 ghost use Rattle.std.specs.Prelude.{◌≤◌, length};
 
 use std::fs::OpenFile;
-use std::io::{Read, Write};
-use std::num::wrapping_add_usize;
+use std::io::Write;
 use std::rt::Files;
 use std::{fs, io};
 
@@ -17,31 +16,6 @@ const NEW: [u8; 4] = *b".new";
 const NAME_TOO_LONG: i32 = 36;
 
 const NO_TEXT: i32 = 84;
-
-// One read behind so many bytes.
-fn read_behind(from: &mut impl Read, room: &mut [u8], held: usize) -> io::Result<usize> {
-    if room.len() < held {
-        return Ok(0);
-    }
-    from.read(&mut room[held..])
-}
-
-// Reads until the room is full, the input ends or a read fails. A turn that reads nothing is the last,
-// so as many turns as the room has bytes are enough.
-pub(crate) fn fill(from: &mut impl Read, room: &mut [u8]) -> io::Result<usize> {
-    let mut held = 0;
-    for _ in 0..room.len() {
-        let count = read_behind(from, room, held)?;
-        if count == 0 {
-            break;
-        }
-        held = wrapping_add_usize(held, count);
-        if room.len() <= held {
-            break;
-        }
-    }
-    Ok(held)
-}
 
 // A file's name as std takes it, which is a text.
 fn path_of(name: &[u8]) -> io::Result<&str> {
@@ -136,12 +110,12 @@ fn renamed<R: Files>(
     bytes: &[u8],
 ) -> bool {
     if let Err(error) = put(file, bytes) {
-        failing::tell(stderr, fresh, &error);
+        streams::tell(stderr, fresh, &error);
         remove(rt, fresh);
         return false;
     }
     if let Err(error) = rename(rt, fresh, name) {
-        failing::tell(stderr, name, &error);
+        streams::tell(stderr, name, &error);
         remove(rt, fresh);
         return false;
     }
@@ -153,7 +127,7 @@ fn replace(rt: &impl Files, stderr: &impl Print, name: &[u8], fresh: &[u8], byte
     match create(rt, fresh) {
         Ok(file) => renamed(rt, stderr, name, fresh, file, bytes),
         Err(error) => {
-            failing::tell(stderr, fresh, &error);
+            streams::tell(stderr, fresh, &error);
             false
         }
     }

@@ -1,5 +1,5 @@
 // The image files: the parameter store's cells and the program store's records, byte for byte.
-use crate::files::{fill, open, save};
+use crate::files::{open, save};
 use std::io::{ErrorKind, Read};
 use std::rt::Files;
 
@@ -33,14 +33,14 @@ fn take<F: Read + Drop>(
     length: usize,
     room: &mut [u8; 8192],
 ) -> Loaded {
-    match fill(&mut file, room) {
+    match streams::fill(&mut file, room) {
         Ok(count) if count == length => Loaded::Taken,
         Ok(_) => {
             refuse_length(stderr, name, length);
             Loaded::Refused
         }
         Err(error) => {
-            failing::tell(stderr, name, &error);
+            streams::tell(stderr, name, &error);
             Loaded::Refused
         }
     }
@@ -58,7 +58,7 @@ pub fn load(
         Ok(file) => take(stderr, file, name, length, room),
         Err(error) if error.kind() == ErrorKind::NotFound => Loaded::Missing,
         Err(error) => {
-            failing::tell(stderr, name, &error);
+            streams::tell(stderr, name, &error);
             Loaded::Refused
         }
     }

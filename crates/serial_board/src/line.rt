@@ -26,7 +26,7 @@ fn send(rt: &impl Print, stderr: &impl Print, status: u8, reply: &[u8; 9]) -> bo
     match rt.write_all(reply) {
         Ok(()) => true,
         Err(error) => {
-            failing::tell(stderr, b"standard output", &error);
+            streams::tell(stderr, b"standard output", &error);
             false
         }
     }
@@ -34,10 +34,10 @@ fn send(rt: &impl Print, stderr: &impl Print, status: u8, reply: &[u8; 9]) -> bo
 
 // The next nine bytes of the line, where there are so many.
 fn receive(rt: &impl Input, stderr: &impl Print, frame: &mut [u8; 9]) -> bool {
-    match files::fill(&mut rt.reader(), frame) {
+    match streams::fill(&mut rt.reader(), frame) {
         Ok(count) => count == 9,
         Err(error) => {
-            failing::tell(stderr, b"standard input", &error);
+            streams::tell(stderr, b"standard input", &error);
             false
         }
     }

@@ -1,8 +1,30 @@
-// A line of what failed and why, as the system words it.
+// What the crates that read and write share: bytes read until a room is full, and the line that says what
+// failed and why.
 #![tactic(auto)]
 
+ghost use Rattle.std.specs.Prelude.{◌≤◌, IfOk, length};
+
 use std::io;
-use std::io::Write;
+use std::io::{Read, Write};
+
+// Reads until the room is full, the input ends or a read fails. A turn that reads nothing is the last,
+// so as many turns as the room has bytes are enough.
+pub fn fill(from: &mut impl Read, room: &mut [u8]) -> io::Result<usize>
+    ensures { IfOk result (λ n. n ≤ length room.new) }
+{
+    let mut held = 0;
+    for _ in 0..room.len() {
+        let count = from.read(&mut room[held..])?;
+        if count == 0 {
+            break;
+        }
+        held += count;
+        if held == room.len() {
+            break;
+        }
+    }
+    Ok(held)
+}
 
 // The system's words of an error: as std prints them, they have its number behind them.
 fn cause(said: &str) -> &str {

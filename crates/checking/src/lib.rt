@@ -40,7 +40,7 @@ impl Verdict {
                 point: Point::first(),
             },
             Verdict::Refused(p, status) => Answer {
-                number: status.number(),
+                number: u8::from(status),
                 point: p,
             },
         }

@@ -4,9 +4,9 @@
 ghost use Rattle.std.specs.Prelude.{◌≡◌};
 ghost use Rattle.rules.specs.Reading as reading;
 
-use order::Compared;
 use registers::Order;
-use status::Status;
+use status::{Refusal, Status};
+use std::cmp::Ordering;
 use words::Word;
 
 // What a command leaves of the program: it goes on, a WAIT holds, or it stops.
@@ -17,11 +17,10 @@ pub enum Left {
     Stops,
 }
 
-// What is to be done. A refusal is one of these. Bytes, addresses and words lie at the same offsets in
-// every variant, so that a step takes none of them apart.
+// What is to be done by a command that is not refused. Bytes, addresses and words lie at the same offsets
+// in every variant, so that a step takes none of them apart.
 #[derive(Clone, Copy)]
 pub enum Deed {
-    Refused(Status),
     // The accumulator; accumulator and X.
     Number(Word),
     Numbers(Word, Word),
@@ -31,7 +30,7 @@ pub enum Deed {
     // A working value by its place.
     Set(u8, Word),
     Output(u8, u32),
-    Last(Compared),
+    Last(Ordering),
     // The flags that CLE names by its type.
     Clear(u8),
     Order(Order, Word),
@@ -41,12 +40,13 @@ pub enum Deed {
     Store(u8, Word),
     // A global: its value and its cell.
     Global(u8, Word),
-    // A WAIT arms with a count and holds; holds on; passes; passes by its count; is refused.
+    // A WAIT arms with a count and holds; holds on; passes; passes by its count; is refused, and the wait
+    // is dropped.
     Held(Word),
     Waits,
     Passed,
     TimedOut,
-    Dropped(Status),
+    Dropped(Refusal),
     // STOP.
     Halt,
     // The command is unknown.
@@ -66,5 +66,5 @@ pub struct Obeyed {
 pub fn bit(on: bool) -> Word
     ensures { result ≡ reading.bit on }
 {
-    if on { Word { v: 1 } } else { Word { v: 0 } }
+    Word { v: i32::from(on) }
 }

@@ -1,12 +1,11 @@
 -- The places keep their kinds. Assumes nothing.
-use Prim.Native.Nat.{ℕ, zero, suc, ◌≤◌}
+use Prim.Native.Nat.{ℕ, zero, suc}
 use mathlib.Core.Path.{◌≡◌, refl, ap, ◌∙◌}
 use mathlib.Core.Bool.{true, false}
 use mathlib.Core.List.{List, [], ◌∷◌}
 use lib.ListN.{get_or, set}
 use Rattle.words.proofs.Bools.{is_T, each}
 use Rattle.board.specs.declared.Registers.{Registers}
-use Rattle.reg_image.specs.Numbers.{behind}
 use Rattle.reg_image.specs.Image.{Kind, number, takes, kinds, all, shaped, Leaves}
 
 -- ---- kinds
@@ -27,9 +26,6 @@ stood (k ∷ ks) (n ∷ l) (suc p) e = stood ks l p (each (takes k n) (all ks l)
 pub shaped-set : (l : List ℕ) (p v : ℕ) → takes (get_or kinds p number) v ≡ true → shaped l ≡ true → shaped (set l p v) ≡ true
 unfolding shaped
 shaped-set l p v h e = kept kinds l p v h e
-
-pub shaped-behind : (l : List ℕ) (p v : ℕ) → 15 ≤ p → shaped l ≡ true → shaped (set l p v) ≡ true
-shaped-behind l p v h e = shaped-set l p v (ap (λ (k : Kind). takes k v) (behind kinds p h)) e
 
 pub shaped-at : (l : List ℕ) (p : ℕ) → shaped l ≡ true → takes (get_or kinds p number) (get_or l p 0) ≡ true
 unfolding shaped

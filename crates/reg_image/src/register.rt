@@ -10,8 +10,8 @@ ghost use Rattle.reg_image.specs.Laws as laws;
 
 use crate::stored::Stored;
 use crate::{REGISTERS, at};
-use order::Compared;
 use registers::Order;
+use std::cmp::Ordering;
 use words::Word;
 
 pub trait Register {
@@ -64,7 +64,7 @@ impl Register for X {
 pub struct Last;
 
 impl Register for Last {
-    type Value = Compared;
+    type Value = Ordering;
 
     const PLACE: usize = at::LAST;
 

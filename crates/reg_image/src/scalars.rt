@@ -7,8 +7,8 @@ ghost use Rattle.reg_image.specs.Image.{registers_of, Leaves};
 
 use crate::register::{get, set};
 use crate::{REGISTERS, register as named};
-use order::Compared;
 use registers::Order;
+use std::cmp::Ordering;
 use waits::Wait;
 use words::Word;
 
@@ -26,7 +26,7 @@ pub fn x(image: &[u32; REGISTERS]) -> Word
 }
 
 // The last comparison.
-pub fn last(image: &[u32; REGISTERS]) -> Compared
+pub fn last(image: &[u32; REGISTERS]) -> Ordering
     ensures { result ≡ (registers_of image.now).core.last }
 {
     get::<named::Last>(image)
@@ -134,7 +134,7 @@ pub fn set_x(image: &mut [u32; REGISTERS], w: Word)
     set::<named::X>(image, w);
 }
 
-pub fn set_last(image: &mut [u32; REGISTERS], last: Compared)
+pub fn set_last(image: &mut [u32; REGISTERS], last: Ordering)
     ensures { Leaves (in_core (with_last last)) image.old image.new }
 {
     set::<named::Last>(image, last);

@@ -3,8 +3,8 @@ ghost use Rattle.std.specs.Prelude.{◌≡◌, ℕ, true};
 ghost use Rattle.words.specs.Word.{word, of_bits};
 ghost use Rattle.reg_image.specs.Image.{Kind, number, bit, comparison, order, takes, is_on, comparison_of, order_of};
 
-use order::Compared;
 use registers::Order;
+use std::cmp::Ordering;
 use words::Word;
 
 pub trait Stored: Copy {
@@ -63,24 +63,24 @@ impl Stored for Word {
     }
 }
 
-impl Stored for Compared {
+impl Stored for Ordering {
     ghost of = { comparison_of };
 
     ghost kind = { comparison };
 
-    fn of_number(number: u32) -> Compared {
+    fn of_number(number: u32) -> Ordering {
         match number {
-            0 => Compared::Equal,
-            1 => Compared::Greater,
-            _ => Compared::Less,
+            0 => Ordering::Equal,
+            1 => Ordering::Greater,
+            _ => Ordering::Less,
         }
     }
 
     fn number(self) -> u32 {
         match self {
-            Compared::Less => 4294967295,
-            Compared::Equal => 0,
-            Compared::Greater => 1,
+            Ordering::Less => 4294967295,
+            Ordering::Equal => 0,
+            Ordering::Greater => 1,
         }
     }
 }

@@ -19,7 +19,7 @@ pub struct Addresses {
 pub fn reply_with(reply: &mut [u8], from: Addresses, status: Status, number: u8, value: Word) -> u8
     ensures { spec.Replies from status number value reply.old result reply.new }
 {
-    let told = status.number();
+    let told = u8::from(status);
     serial::put_reply(
         reply,
         Reply {

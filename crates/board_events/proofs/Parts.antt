@@ -20,7 +20,7 @@ use Rattle.board.specs.declared.Registers.{Registers}
 use Rattle.reg_image.specs.With.{in_core, with_count, with_eal, with_edv, with_epo, with_digital, with_analog}
 use Rattle.reg_image.specs.Rows.{set_digital, set_analog}
 use Rattle.reg_image.specs.Image.{registers_of}
-use Rattle.reg_image.proofs.Places.{part_length, words-length}
+use Rattle.reg_image.specs.Numbers.{part_length, words-length}
 use Rattle.board_events.specs.Parts.{alarmed, with_inputs}
 
 -- a tick changes the count alone

@@ -35,7 +35,7 @@ use Rattle.promises.specs.Commands as command-laws
 use Rattle.promises.proofs.Rules as promises
 use Rattle.promises.proofs.Refusals as refusals
 use Rattle.reg_image.specs.Image.{registers_of, shaped, words}
-use Rattle.reg_image.proofs.Places.{words-length}
+use Rattle.reg_image.specs.Numbers.{words-length}
 use Rattle.reg_range.specs.Range.{stands}
 use Rattle.board_events.specs.Standing.{Told, Is, Leaving}
 use Rattle.board_events.specs.Events.{tick_status, sample_of, sample_status}

@@ -10,25 +10,12 @@ ghost use Rattle.judge.specs.Judge.{is_flow, is_reading};
 pub fn is_flow(number: u8) -> bool
     ensures { result ≡ is_flow number }
 {
-    match number {
-        21 => true,
-        22 => true,
-        23 => true,
-        24 => true,
-        27 => true,
-        28 => true,
-        _ => false,
-    }
+    matches!(number, 21..=24 | 27 | 28)
 }
 
 // Whether a command reads a value, which a program loads into the accumulator.
 pub fn is_reading(number: u8) -> bool
     ensures { result ≡ is_reading number }
 {
-    match number {
-        6 => true,
-        10 => true,
-        15 => true,
-        _ => false,
-    }
+    matches!(number, 6 | 10 | 15)
 }

@@ -7,6 +7,7 @@ ghost use Rattle.std.specs.Prelude.{◌≡◌};
 ghost use Rattle.judge.specs.Judge.{is_flow, is_reading};
 
 // Whether a command is one that only a program has.
+#[tactic(auto, unfolding(crate::specs::Judge::is_flow))]
 pub fn is_flow(number: u8) -> bool
     ensures { result ≡ is_flow number }
 {
@@ -14,6 +15,7 @@ pub fn is_flow(number: u8) -> bool
 }
 
 // Whether a command reads a value, which a program loads into the accumulator.
+#[tactic(auto, unfolding(crate::specs::Judge::is_reading))]
 pub fn is_reading(number: u8) -> bool
     ensures { result ≡ is_reading number }
 {

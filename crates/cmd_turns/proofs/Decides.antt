@@ -4,11 +4,11 @@ use mathlib.Core.Path.{◌≡◌, refl, sym, ap, ◌∙◌}
 use mathlib.Core.Bool.{Bool, true, false}
 use mathlib.Core.List.{List}
 use lib.Dec.{eqb}
-use Rattle.std.specs.Prelude.{Result, Ok, Err}
+use Rattle.std.specs.Prelude.{Err}
 use Rattle.words.proofs.Bools.{is_T}
 use Rattle.wire.specs.declared.Command.{Command}
 use Rattle.status.specs.Status.{is_done, is_unknown, in_order}
-use Rattle.status.specs.Refusal.{status_of, judged_as}
+use Rattle.status.specs.Refusal.{status_of}
 use Rattle.status.specs.declared.Status.{Status}
 use Rattle.status.specs.declared.Status.TheVariants as status
 use Rattle.status.specs.declared.Refusal.{Refusal}
@@ -49,21 +49,18 @@ refusal-not-done refusal.Unavailable = refl
 
 module _ (k : ℕ) (c : Command) (r : Registers) (m : List ℕ) where
   -- what the judge refuses goes on with its status; a WAIT drops the wait
-  module _ (motor kind value : Bool) (j : judged (numbered k c) ≡ by_bytes motor kind value) {x : Result Unit Refusal}
-      (e : judged_as x ≡ by_bytes motor kind value) (refusal : Refusal) (was : x ≡ Err refusal) where
-    judged-refused : judged (numbered k c) ≡ status_of refusal
-    judged-refused = j ∙ sym e ∙ ap judged_as was
-
+  module _ (motor kind value : Bool) (j : judged (numbered k c) ≡ by_bytes motor kind value) (refusal : Refusal)
+      (e : status_of refusal ≡ by_bytes motor kind value) where
     not-unknown : is_unknown (status_of refusal) ≡ false
-    not-unknown = sym (ap is_unknown (ap judged_as was)) ∙ ap is_unknown e ∙ known true motor kind value true
+    not-unknown = ap is_unknown e ∙ known true motor kind value true
 
     pub refuses : eqb k 27 ≡ false → comes_to (Err refusal) r m ≡ turned (numbered k c) r m
     unfolding turned
-    refuses n = rw (judged-refused, not-unknown, refusal-not-done refusal, n)
+    refuses n = rw (j ∙ sym e, not-unknown, refusal-not-done refusal, n)
 
     pub drops : eqb k 27 ≡ true → doing (Dropped refusal) r m ≡ turned (numbered k c) r m
     unfolding turned doing
-    drops n = rw (judged-refused, not-unknown, refusal-not-done refusal, n)
+    drops n = rw (j ∙ sym e, not-unknown, refusal-not-done refusal, n)
 
   -- what it lets through is carried out
   pub passes : judged (numbered k c) ≡ status.Done → turned (numbered k c) r m ≡ through (numbered k c) r m

@@ -4,7 +4,7 @@ use crate::print::{labelled, labelled_word, spelled, text};
 use crate::tilt::command;
 use crate::trace::Seen;
 use crate::{bracket, names, trace};
-use display::Received;
+use display::Unread;
 use reg_image::REGISTERS;
 use std::num::wrapping_add_u64;
 use wire::Command;
@@ -13,13 +13,13 @@ fn received(rt: &impl Print, reply: &[u8; 9]) {
     text(rt, b", reply ");
     text(rt, &spelled(reply));
     match display::read_reply(reply) {
-        Received::Read(r) => {
+        Ok(r) => {
             labelled(rt, b": status ", r.status as u64);
             let value = r.value;
             labelled_word(rt, b", value ", value.v);
         }
-        Received::Length => text(rt, b": of another length"),
-        Received::Checksum => text(rt, b": damaged"),
+        Err(Unread::Length) => text(rt, b": of another length"),
+        Err(Unread::Checksum) => text(rt, b": damaged"),
     }
 }
 
@@ -34,7 +34,7 @@ fn exchange(
 ) -> u8 {
     let mut frame = [0u8; 9];
     let mut reply = [0u8; 9];
-    display::build_command(&mut frame, 1, sent);
+    let _ = display::build_command(&mut frame, 1, sent);
     let status = board_datagrams::datagram(image, program, cells, &mut reply, &frame);
     if is_told {
         text(rt, b"  ");

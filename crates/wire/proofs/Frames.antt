@@ -20,8 +20,8 @@ use Rattle.words.proofs.Trips.{split_join, join_split}
 use Rattle.checksum.specs.Checksum.{total, checksum, right_frame}
 use Rattle.wire.specs.Frame.{seven, summed, frame, written_status}
 use Rattle.wire.specs.Laws.{Changed, Laws}
-use Rattle.wire.specs.declared.Written.{Written}
-use Rattle.wire.specs.declared.Written.TheVariants.{Done, Length}
+use Rattle.std.specs.Prelude.{Result, Ok, Err}
+use Rattle.wire.specs.declared.WrongLength.{WrongLength}
 use Rattle.checksum.proofs.Nine.{nine}
 use Rattle.wire.proofs.Parts.{command-part}
 
@@ -125,11 +125,11 @@ sum_changed s i b c r hi hc =
     (λ q. shifted (total (take 8 t)) (get_or s i 0) c hc (q ∙ k))
     (λ q. unshifted (total (take 8 t)) (get_or s i 0) c q ∙ sym k))
 
-pub one_written : (x y : Written) → written_status x ≡ written_status y → x ≡ y
-one_written Done Done h = refl
-one_written Done Length h = absurd (omega arith)
-one_written Length Done h = absurd (omega arith)
-one_written Length Length h = refl
+pub one_written : (x y : Result (Unit {0}) WrongLength) → written_status x ≡ written_status y → x ≡ y
+one_written (Ok u) (Ok v) h = refl
+one_written (Ok u) (Err f) h = absurd (omega arith)
+one_written (Err e) (Ok v) h = absurd (omega arith)
+one_written (Err e) (Err f) h = refl
 
 pub laws : Laws
 laws =

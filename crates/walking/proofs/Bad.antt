@@ -3,10 +3,11 @@ use Prim.Native.Nat.{ℕ, ◌+◌, ◌*◌, ◌%◌, ◌<◌, ◌≤◌}
 use native.Mathlib.Omega.{arith}
 use native.Mathlib.Decide.{dec_lt}
 use mathlib.Core.Path.{◌≡◌, refl, sym, subst}
-use mathlib.Core.Logic.{inl, inr}
+use mathlib.Core.Logic.{◌⊎◌, inl, inr, ⊎_elim}
 use mathlib.Core.Bool.{Bool, true, false}
 use lib.Dec.{eqb, leb, ltb}
 use borrow.Author.Tests.{eqb-true, leb-true, ltb-true, ltb-false}
+use Rattle.std.proofs.Common.{Option, Some, None}
 use Rattle.words.specs.Word.{pick}
 use Rattle.words.proofs.Bools.{either}
 use Rattle.status.specs.declared.Status.{Status}
@@ -17,24 +18,38 @@ use Rattle.points.specs.declared.Way.TheVariants as way
 use Rattle.leading.specs.Depths.{at_depth}
 use Rattle.leading.specs.declared.Paths.{Paths}
 use Rattle.leading.specs.declared.Paths.TheVariants.{Bad, Nowhere, Back, To, Both, Call}
-use Rattle.walking.specs.Walk.{Has, Least, found, lowered, Noted}
-use Rattle.walking.specs.declared.Found.{Found}
-use Rattle.walking.proofs.Depths.{depth-zero, zero-depth, deepest, not-deepest}
+use Rattle.walking.specs.Walk.{Has, found, lowered, FoundBy, Noted}
+use Rattle.walking.specs.declared.found.Found.{Found}
+use Rattle.walking.proofs.Depths.{Least, depth-zero, zero-depth, deepest, not-deepest}
 
-module _ (paths : Paths) (a m : ℕ) (f : Found) where
+-- what the lower of f and a bad point has
+pub record Lower (f : Option Found) (i : ℕ) (t : Status) (g : Option Found) : Type 0 where
+  pub kept : (j : ℕ) → FoundBy f j → FoundBy g j
+  pub at : (j : ℕ) → i ≤ j → FoundBy g j
+  pub one : (g ≡ f) ⊎ (g ≡ Some (found i t))
+
+lower : (f : Option Found) (i : ℕ) (t : Status) → Lower f i t (lowered f i t)
+lower None i t = record { kept = λ j h. absurd h; at = λ j h. h; one = inr refl }
+lower (Some f) i t =
+    either (Lower (Some f) i t) (ltb i f.number) (Some (found i t)) (Some f)
+    (λ u. let l = ltb-true i f.number u in record { kept = λ j h. omega arith; at = λ j h. h; one = inr refl })
+    (λ u. let l = ltb-false i f.number u in record { kept = λ j h. h; at = λ j h. omega arith; one = inl refl })
+
+module _ (paths : Paths) (a m : ℕ) (f : Option Found) where
   -- no point there is bad
   noted-none : ((d : ℕ) (t : Status) → Has m d → at_depth paths d ≡ way.Bad t → ⊥) → Noted paths a m f f
-  noted-none n = record { lower = omega arith; least = λ d t h e. absurd (n d t h e); real = inl refl }
+  noted-none n = record { lower = λ i h. h; least = λ d t h e. absurd (n d t h e); real = inl refl }
 
   -- the one at d is, and none below
   noted-at : (d : ℕ) (s : Status) → Has m d → at_depth paths d ≡ way.Bad s → ((e : ℕ) (t : Status) → Has m e → at_depth paths e ≡ way.Bad t → d ≤ e)
       → Noted paths a m f (lowered f (a * 9 + d) s)
   noted-at d s h b n =
-      either (Noted paths a m f) (ltb (a * 9 + d) f.number) (found (a * 9 + d) s) f
-      (λ u. let l = ltb-true (a * 9 + d) f.number u in
-      record { lower = omega arith; least = λ e t k g. let q = n e t k g in omega arith; real = inr (d, refl, h, b) })
-      (λ u. let l = ltb-false (a * 9 + d) f.number u in
-      record { lower = omega arith; least = λ e t k g. let q = n e t k g in omega arith; real = inl refl })
+      let l = lower f (a * 9 + d) s in
+      record {
+        lower = l.kept;
+        least = λ e t k g. l.at (a * 9 + e) (let q = n e t k g in omega arith);
+        real = ⊎_elim inl (λ e. inr (d, s, e, h, b)) l.one;
+      }
 
 -- bad by the test b alone
 bad-by : (b : Bool) (s t : Status) (w : Way) → (w ≡ way.Bad t → ⊥) → pick b (way.Bad s) w ≡ way.Bad t → b ≡ true
@@ -51,7 +66,7 @@ both : (b d c e : ℕ) (t : Status) → way.Both (point b d) (point c e) ≡ way
 both b d c e t g = let z : ◌≡◌ {A = ℕ} 0 1 = cc in omega arith
 
 -- ---- by where the address leads
-module _ (a m : ℕ) (f : Found) where
+module _ (a m : ℕ) (f : Option Found) where
   pub noted-bad : (s : Status) (d : ℕ) → Least m d → Noted (Bad s) a m f (lowered f (a * 9 + d) s)
   noted-bad s d l =
       noted-at (Bad s) a m f d s l.here refl (λ e t h _. elim (dec_lt e d) [ yes y ↦ absurd (l.none e y h) | no z ↦ omega arith ])
@@ -88,5 +103,5 @@ module _ (a m : ℕ) (f : Found) where
     pub call_none : m < 256 → Noted (Call b c) a m f f
     call_none l = noted-none (Call b c) a m f (λ d t h e. let q = call-bad d t e in omega (arith, not-deepest m d l h))
 
-pub shown : {paths p : Paths} {a m : ℕ} {f g i : Found} → paths ≡ p → g ≡ i → Noted p a m f i → Noted paths a m f g
+pub shown : {paths p : Paths} {a m : ℕ} {f g i : Option Found} → paths ≡ p → g ≡ i → Noted p a m f i → Noted paths a m f g
 shown {paths} {p} {a} {m} {f} {g} e q n = subst (λ v. Noted v a m f g) (sym e) (subst (Noted p a m f) (sym q) n)

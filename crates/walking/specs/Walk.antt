@@ -1,5 +1,6 @@
 -- The walk's state, and what one look at an address does to it.
-use Rattle.std.specs.Prelude.{ℕ, zero, suc, ◌+◌, ◌-◌, ◌*◌, ◌/◌, ◌%◌, ◌<◌, ◌≤◌, ◌≡◌, ◌⊎◌, List, [], ◌∷◌, eqb, ltb, length, get_or, set}
+use Rattle.std.specs.Prelude.{ℕ, ◌+◌, ◌-◌, ◌*◌, ◌/◌, ◌%◌, ◌<◌, ◌≤◌, ◌≡◌, ◌⊎◌, List, [], ◌∷◌, Option, Some, None, eqb, ltb, length, get_or, set}
+use Rattle.std.specs.Int.{bit_at}
 use Rattle.std.specs.Int.Bits.{bit_or}
 use Rattle.words.specs.Word.{pick}
 use Rattle.status.specs.declared.Status.{Status}
@@ -7,21 +8,17 @@ use Rattle.points.specs.declared.Way.TheVariants as way
 use Rattle.leading.specs.Depths.{at_depth}
 use Rattle.leading.specs.declared.Paths.{Paths}
 use Rattle.leading.specs.declared.Paths.TheVariants.{Bad, Nowhere, Back, To, Both, Call}
-use Rattle.walking.specs.declared.Found.{Found}
-use Rattle.walking.specs.declared.Hand.{Hand}
+use Rattle.walking.specs.declared.found.Found.{Found}
+use Rattle.walking.specs.declared.walk.Site.{Site}
 
 -- ---- depths: a number with bit d for the depth d
-unfoldable pub bit : ℕ → ℕ → ℕ
-bit m zero = m % 2
-bit m (suc d) = bit (m / 2) d
-
 -- depth d is one of those
 abbrev pub Has : ℕ → ℕ → Type 0
-Has m d = bit m d ≡ 1
+Has m d = bit_at m d ≡ 1
 
-pub record Least (m d : ℕ) : Type 0 where
-  pub here : Has m d
-  pub none : (e : ℕ) → e < d → Has m e → ⊥
+-- the first point is at address 0 and depth 0
+abbrev pub IsFirst : Site → Type 0
+IsFirst s = (s.address ≡ 0) × (s.depths ≡ 1)
 
 -- ---- a mask for each of the 1,025 addresses: the depths at which it was reached, and 512 more while it waits to be looked at; a
 -- stack of the addresses that wait; and how many stand there
@@ -39,17 +36,24 @@ mask_at x a = get_or x.masks a 0
 abbrev pub depths_at : Walk → ℕ → ℕ
 depths_at x a = mask_at x a % 512
 
--- .. with the address in hand, to be looked at next, and its depths; 1,025, which is no address, and no depths where nothing is left
-pub record Held : Type 0 where
-  pub walk : Walk
+-- .. with the address in hand, to be looked at next, and its depths, unless nothing is left
+pub record Hand : Type 0 where
   pub address : ℕ
   pub depths : ℕ
 
-abbrev pub held : Walk → ℕ → ℕ → Held
-held x a m = record { walk = x; address = a; depths = m }
+pub record Held : Type 0 where
+  pub walk : Walk
+  pub hand : Option Hand
 
-abbrev pub in_hand : List ℕ → List ℕ → Hand → Held
-in_hand v s h = held (walk v s h.n) h.address h.depths
+abbrev pub held : Walk → ℕ → ℕ → Held
+held x a m = record { walk = x; hand = Some (record { address = a; depths = m }) }
+
+abbrev pub idle : Walk → Held
+idle x = record { walk = x; hand = None }
+
+abbrev pub in_hand : Walk → Option Site → Held
+in_hand x None = idle x
+in_hand x (Some s) = held x s.address s.depths
 
 -- ---- what the walk does
 -- the depths of an address with those at which it is reached
@@ -69,7 +73,7 @@ top x = get_or x.stack (x.n - 1) 0
 -- the last address of the stack in hand
 unfoldable pub taken : Walk → Held
 taken x =
-    pick (eqb x.n 0) (held x 1025 0)
+    pick (eqb x.n 0) (idle x)
     (held (walk (set x.masks (top x) (depths_at x (top x))) x.stack (x.n - 1)) (top x) (depths_at x (top x)))
 
 -- an address reached, and in hand at once if one of its depths is new and it does not wait
@@ -93,16 +97,22 @@ abbrev pub found : ℕ → Status → Found
 found i s = record { number = i; status = s }
 
 -- the lower one
-abbrev pub lowered : Found → ℕ → Status → Found
-lowered f i s = pick (ltb i f.number) (found i s) f
+abbrev pub lowered : Option Found → ℕ → Status → Option Found
+lowered None i s = Some (found i s)
+lowered (Some f) i s = pick (ltb i f.number) (Some (found i s)) (Some f)
+
+-- a bad point was found, and its number is not after i
+abbrev pub FoundBy : Option Found → ℕ → Type 0
+FoundBy None i = ⊥
+FoundBy (Some f) i = f.number ≤ i
 
 -- g is the lowest of f and the bad points at the address a and the depths m
-pub record Noted (paths : Paths) (a m : ℕ) (f g : Found) : Type 0 where
-  pub lower : g.number ≤ f.number
-  pub least : (d : ℕ) (t : Status) → Has m d → at_depth paths d ≡ way.Bad t → g.number ≤ a * 9 + d
-  pub real : (g ≡ f) ⊎ ((d : ℕ) × (g.number ≡ a * 9 + d) × Has m d × (at_depth paths d ≡ way.Bad g.status))
+pub record Noted (paths : Paths) (a m : ℕ) (f g : Option Found) : Type 0 where
+  pub lower : (i : ℕ) → FoundBy f i → FoundBy g i
+  pub least : (d : ℕ) (t : Status) → Has m d → at_depth paths d ≡ way.Bad t → FoundBy g (a * 9 + d)
+  pub real : (g ≡ f) ⊎ ((d : ℕ) × (t : Status) × (g ≡ Some (found (a * 9 + d) t)) × Has m d × (at_depth paths d ≡ way.Bad t))
 
--- ---- what the walk's functions ask of the state
+-- ---- what is true of every state
 unfoldable pub total : (ℕ → ℕ) → List ℕ → ℕ
 total g [] = 0
 total g (v ∷ vs) = g v + total g vs
@@ -125,7 +135,8 @@ EndsIn (Both a b) = (a ≤ 1024) × (b ≤ 1024)
 EndsIn (Call a b) = (a ≤ 1024) × (b ≤ 1024)
 
 -- nothing reached yet
-pub record Blank (v s : List ℕ) : Type 0 where
-  pub masks : length v ≡ 1025
-  pub slots : length s ≡ 1025
-  pub clear : (a : ℕ) → get_or v a 0 ≡ 0
+pub record Blank (x : Walk) : Type 0 where
+  pub masks : length x.masks ≡ 1025
+  pub slots : length x.stack ≡ 1025
+  pub empty : x.n ≡ 0
+  pub clear : (a : ℕ) → mask_at x a ≡ 0

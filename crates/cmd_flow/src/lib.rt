@@ -11,39 +11,39 @@ ghost use Rattle.cmd_turns.specs.Decides.{Always, From};
 ghost use Rattle.cmd_flow.specs.Flow.{Before, Tests};
 
 use cmd_turns::Deed;
-use order::Compared;
+use std::cmp::Ordering;
 use reg_image::REGISTERS;
 use status::Status;
 use wire::Command;
 use words::Word;
 
-fn is_less(last: Compared) -> bool
+fn is_less(last: Ordering) -> bool
     ensures { result ≡ jump.is_less last }
 {
     match last {
-        Compared::Less => true,
-        Compared::Equal => false,
-        Compared::Greater => false,
+        Ordering::Less => true,
+        Ordering::Equal => false,
+        Ordering::Greater => false,
     }
 }
 
-fn is_equal(last: Compared) -> bool
+fn is_equal(last: Ordering) -> bool
     ensures { result ≡ jump.is_equal last }
 {
     match last {
-        Compared::Less => false,
-        Compared::Equal => true,
-        Compared::Greater => false,
+        Ordering::Less => false,
+        Ordering::Equal => true,
+        Ordering::Greater => false,
     }
 }
 
-fn is_greater(last: Compared) -> bool
+fn is_greater(last: Ordering) -> bool
     ensures { result ≡ jump.is_greater last }
 {
     match last {
-        Compared::Less => false,
-        Compared::Equal => false,
-        Compared::Greater => true,
+        Ordering::Less => false,
+        Ordering::Equal => false,
+        Ordering::Greater => true,
     }
 }
 

@@ -4,7 +4,7 @@
 ghost use Rattle.std.specs.Prelude.{◌≡◌};
 ghost use Rattle.rules.specs.Reading as reading;
 
-use order::Compared;
+use std::cmp::Ordering;
 use registers::Order;
 use status::Status;
 use words::Word;
@@ -31,7 +31,7 @@ pub enum Deed {
     // A working value by its place.
     Set(u8, Word),
     Output(u8, u32),
-    Last(Compared),
+    Last(Ordering),
     // The flags that CLE names by its type.
     Clear(u8),
     Order(Order, Word),

@@ -2,10 +2,11 @@
 #![tactic(auto)]
 
 ghost use Rattle.std.specs.Prelude.{◌≡◌};
+ghost use Rattle.status.specs.Refusal.{judged_as};
 ghost use Rattle.fields.specs.Fields as spec;
 
 use fields::by_bytes;
-use status::Status;
+use status::Refusal;
 use wire::Command;
 
 // Whether a bank has globals or user variables.
@@ -38,8 +39,8 @@ fn takes(bank: u8, number: u8) -> bool
 }
 
 // A user variable takes every word.
-pub fn sgp(c: Command) -> Status
-    ensures { result ≡ spec.sgp c }
+pub fn sgp(c: Command) -> Result<(), Refusal>
+    ensures { judged_as result ≡ spec.sgp c }
 {
     let bank = c.motor;
     let kind = c.kind;
@@ -51,8 +52,8 @@ pub fn sgp(c: Command) -> Status
 }
 
 // The bank of user variables is told first, here and in `agp`: so the compiler takes the fields one by one.
-pub fn ggp(c: Command) -> Status
-    ensures { result ≡ spec.ggp c }
+pub fn ggp(c: Command) -> Result<(), Refusal>
+    ensures { judged_as result ≡ spec.ggp c }
 {
     let bank = c.motor;
     let kind = c.kind;
@@ -63,14 +64,14 @@ pub fn ggp(c: Command) -> Status
 }
 
 // STGP and RSGP.
-pub fn stgp(c: Command) -> Status
-    ensures { result ≡ spec.stgp c }
+pub fn stgp(c: Command) -> Result<(), Refusal>
+    ensures { judged_as result ≡ spec.stgp c }
 {
     by_bytes(c.motor == 2, c.kind < 56, true)
 }
 
-pub fn agp(c: Command) -> Status
-    ensures { result ≡ spec.agp c }
+pub fn agp(c: Command) -> Result<(), Refusal>
+    ensures { judged_as result ≡ spec.agp c }
 {
     let bank = c.motor;
     let kind = c.kind;

@@ -13,8 +13,8 @@ use mir.Syntax.{w32}
 use mir.Facts.{to_z_inj}
 use Rattle.words.specs.Word.{pick, of_bits}
 use Rattle.words.proofs.Bools.{either, or_else}
-use Rattle.order.specs.declared.Compared.{Compared}
-use Rattle.order.specs.declared.Compared.TheVariants.{Less, Equal, Greater}
+use Rattle.std.specs.declared.cmp.Ordering.{Ordering}
+use Rattle.std.specs.declared.cmp.Ordering.TheVariants.{Less, Equal, Greater}
 use Rattle.registers.specs.declared.Order.{Order}
 use Rattle.registers.specs.declared.Order.TheVariants.{Stopped, Velocity, Position}
 use Rattle.board.specs.declared.Registers.{Registers}
@@ -27,7 +27,7 @@ use Rattle.law_rows.specs.Rows.{Numbers}
 bit-number : Bool → ℕ
 bit-number t = pick t 1 0
 
-comparison-number : Compared → ℕ
+comparison-number : Ordering → ℕ
 comparison-number Equal = 0
 comparison-number Greater = 1
 comparison-number Less = 4294967295
@@ -45,8 +45,8 @@ bit-back n h =
 comparison-back : (n : ℕ) → takes comparison n ≡ true → comparison-number (comparison_of n) ≡ n
 unfolding comparison-number
 comparison-back n h =
-    either (λ (k : Compared). comparison-number k ≡ n) (eqb n 0) Equal (pick (eqb n 1) Greater Less) (λ e. sym (eqb-true n 0 e))
-    (λ e. either (λ (k : Compared). comparison-number k ≡ n) (eqb n 1) Greater Less (λ f. sym (eqb-true n 1 f))
+    either (λ (k : Ordering). comparison-number k ≡ n) (eqb n 0) Equal (pick (eqb n 1) Greater Less) (λ e. sym (eqb-true n 0 e))
+    (λ e. either (λ (k : Ordering). comparison-number k ≡ n) (eqb n 1) Greater Less (λ f. sym (eqb-true n 1 f))
     (λ f. or_else (leb n 1) (eqb n 4294967295) h (λ q. omega (arith, leb-true n 1 q, eqb-false n 0 e, eqb-false n 1 f))
     (λ q. sym (eqb-true n 4294967295 q))))
 

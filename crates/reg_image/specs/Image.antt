@@ -3,8 +3,8 @@
 use Rattle.std.specs.Prelude.{ℕ, ◌≡◌, Bool, true, false, ◌&&◌, ◌||◌, List, [], ◌∷◌, ◌++◌, map, eqb, leb, ℤ, get_or, take, drop}
 use Rattle.words.specs.Word.{word, of_bits, pick}
 use Rattle.words.specs.declared.Word.{Word}
-use Rattle.order.specs.declared.Compared.{Compared}
-use Rattle.order.specs.declared.Compared.TheVariants.{Less, Equal, Greater}
+use Rattle.std.specs.declared.cmp.Ordering.{Ordering}
+use Rattle.std.specs.declared.cmp.Ordering.TheVariants.{Less, Equal, Greater}
 use Rattle.registers.specs.declared.Order.{Order}
 use Rattle.registers.specs.declared.Order.TheVariants.{Stopped, Velocity, Position}
 use Rattle.board.specs.declared.Registers.{Registers}
@@ -14,7 +14,7 @@ abbrev pub word_at : List ℕ → ℕ → Word
 word_at l p = word (of_bits (get_or l p 0))
 
 -- 0 equal, 1 greater, 4294967295 (-1) less
-abbrev pub comparison_of : ℕ → Compared
+abbrev pub comparison_of : ℕ → Ordering
 comparison_of n = pick (eqb n 0) Equal (pick (eqb n 1) Greater Less)
 
 -- 0 stopped, 1 velocity, 2 position

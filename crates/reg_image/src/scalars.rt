@@ -7,7 +7,7 @@ ghost use Rattle.reg_image.specs.Image.{comparison_of, order_of, is_on, takes, b
 
 use crate::place::put;
 use crate::{REGISTERS, at};
-use order::Compared;
+use std::cmp::Ordering;
 use registers::Order;
 use waits::Wait;
 use words::Word;
@@ -19,23 +19,23 @@ fn bit_number(on: bool) -> u32
     if on { 1 } else { 0 }
 }
 
-fn comparison_number(last: Compared) -> u32
+fn comparison_number(last: Ordering) -> u32
     ensures { (comparison_of result ≡ last) × (takes comparison result ≡ true) }
 {
     match last {
-        Compared::Less => 4294967295,
-        Compared::Equal => 0,
-        Compared::Greater => 1,
+        Ordering::Less => 4294967295,
+        Ordering::Equal => 0,
+        Ordering::Greater => 1,
     }
 }
 
-fn comparison_of(number: u32) -> Compared
+fn comparison_of(number: u32) -> Ordering
     ensures { result ≡ comparison_of number }
 {
     match number {
-        0 => Compared::Equal,
-        1 => Compared::Greater,
-        _ => Compared::Less,
+        0 => Ordering::Equal,
+        1 => Ordering::Greater,
+        _ => Ordering::Less,
     }
 }
 
@@ -73,7 +73,7 @@ pub fn x(image: &[u32; REGISTERS]) -> Word
 }
 
 // The last comparison.
-pub fn last(image: &[u32; REGISTERS]) -> Compared
+pub fn last(image: &[u32; REGISTERS]) -> Ordering
     ensures { result ≡ (registers_of image.now).core.last }
 {
     comparison_of(image[at::LAST])
@@ -181,7 +181,7 @@ pub fn set_x(image: &mut [u32; REGISTERS], w: Word)
     put(image, at::X, words::bits_of(w));
 }
 
-pub fn set_last(image: &mut [u32; REGISTERS], last: Compared)
+pub fn set_last(image: &mut [u32; REGISTERS], last: Ordering)
     ensures { Leaves (in_core (with_last last)) image.old image.new }
 {
     put(image, at::LAST, comparison_number(last));

@@ -4,8 +4,8 @@
 use Rattle.std.specs.Prelude.{ℕ, ◌+◌, Bool, false, ltb, pos}
 use Rattle.words.specs.Word.{pick, word}
 use Rattle.words.specs.declared.Word.{Word}
-use Rattle.order.specs.declared.Compared.{Compared}
-use Rattle.order.specs.declared.Compared.TheVariants.{Equal}
+use Rattle.std.specs.declared.cmp.Ordering.{Ordering}
+use Rattle.std.specs.declared.cmp.Ordering.TheVariants.{Equal}
 use Rattle.flags.specs.declared.Flags.{Flags}
 use Rattle.waits.specs.Waits.{dropped_wait}
 use Rattle.waits.specs.declared.Wait.{Wait}
@@ -57,7 +57,7 @@ with_numbers a x c =
       depth = c.depth;
     }
 
-abbrev pub with_last : Compared → Core → Core
+abbrev pub with_last : Ordering → Core → Core
 with_last l c =
     record {
       accumulator = c.accumulator;

@@ -9,7 +9,7 @@ ghost use Rattle.registers.specs.Laws.{Laws};
 ghost use Rattle.registers.specs.Registers.{next_address};
 
 use flags::Flags;
-use order::Compared;
+use std::cmp::Ordering;
 use waits::Wait;
 use words::Word;
 
@@ -38,7 +38,7 @@ pub struct Download {
 pub struct Core {
     pub accumulator: Word,
     pub x: Word,
-    pub last: Compared,
+    pub last: Ordering,
     pub flags: Flags,
     pub address: u16,
     pub running: bool,

@@ -10,7 +10,7 @@ use Rattle.registers.specs.Registers.{with_numbers, with_last, with_motion, with
 use Rattle.registers.specs.declared.Core.{Core}
 use Rattle.registers.specs.declared.Order.{Order}
 use Rattle.registers.specs.declared.Order.TheVariants.{Position}
-use Rattle.order.specs.declared.Compared.{Compared}
+use Rattle.std.specs.declared.cmp.Ordering.{Ordering}
 use Rattle.flags.specs.declared.Flags.{Flags}
 use Rattle.status.specs.declared.Status.{Status}
 use Rattle.status.specs.declared.Status.TheVariants.{Done}
@@ -32,7 +32,7 @@ pub data Effect : Type 0 where
   Output : ℕ → ℕ → Effect
   -- the accumulator and X
   Numbers : Word → Word → Effect
-  Last : Compared → Effect
+  Last : Ordering → Effect
   Clear : Flags → Effect
 
 -- what a command leaves of the scalars, the working values, the outputs and the parameter store, and its status

@@ -1,1 +1,3 @@
 pub mod Status
+pub mod Refusal
+pub mod Misfit

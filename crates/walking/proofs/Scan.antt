@@ -4,11 +4,12 @@ use native.Mathlib.Numerals.{add-one}
 use native.Mathlib.Omega.{arith}
 use mathlib.Core.Path.{◌≡◌, refl, sym, ap, ◌∙◌, subst}
 use mathlib.Core.Logic.{◌⊎◌, inl, inr, ⊎_elim}
-use Rattle.std.proofs.Common.{Option, Some, None}
+use Rattle.std.proofs.Common.{Option, Some, None, Result, Ok, Err}
 use lib.Dec.{eqb, leb}
 use lib.ListN.{length, get_or, replicate, length-replicate}
 use borrow.Author.Tests.{leb-false, lt-leb}
 use Rattle.words.proofs.Bools.{either}
+use Rattle.status.specs.declared.Refusal.{Refusal}
 use Rattle.status.specs.declared.Status.{Status}
 use Rattle.status.specs.declared.Status.TheVariants.{Unavailable}
 use Rattle.points.specs.Points.{point, IsPoint, number_of, point_at}
@@ -20,7 +21,7 @@ use Rattle.points.proofs.Numbers.{number_low, is_point, point_number, number_poi
 use Rattle.points.proofs.Ways.{all-points}
 use Rattle.leading.specs.Depths.{at_depth, AtEach}
 use Rattle.leading.specs.declared.Paths.{Paths}
-use Rattle.leading.specs.declared.Paths.TheVariants.{Bad, Nowhere, Back, To, Both, Call}
+use Rattle.leading.specs.declared.Paths.TheVariants.{Nowhere, Back, To, Both, Call}
 use Rattle.walking.specs.Walk.{Has, Walk, walk, Hand, Held, held, idle, reached, gone, spread_over, FoundBy, Noted, Room, EndsIn, Blank}
 use Rattle.walking.specs.Found.{FoundIn}
 use Rattle.walking.specs.declared.found.Found.{Found}
@@ -48,25 +49,25 @@ blank-room b =
     record { masks = b.masks; slots = b.slots; small = λ a. omega (arith, b.clear a); counted = omega (arith, b.empty); filled = λ k h. absurd (omega (arith, b.empty)) }
 
 -- ---- what is left after a turn
-falls : (x : Walk) (m : ℕ) (paths : Paths) → Room x → m < 512 → EndsIn paths → left_held (spread_over x m paths) ≤ left x
-falls x m (Bad s) r l e = taken-left x r
-falls x m Nowhere r l e = taken-left x r
-falls x m Back r l e = taken-left x r
-falls x m (To a) r l e = gone-left x a m r e l
-falls x m (Both a b) r l e =
+falls : (x : Walk) (m : ℕ) (paths : Result Paths Refusal) → Room x → m < 512 → EndsIn paths → left_held (spread_over x m paths) ≤ left x
+falls x m (Err s) r l e = taken-left x r
+falls x m (Ok Nowhere) r l e = taken-left x r
+falls x m (Ok Back) r l e = taken-left x r
+falls x m (Ok (To a)) r l e = gone-left x a m r e l
+falls x m (Ok (Both a b)) r l e =
     omega (arith, reached-left x a m r e.0 l, gone-left (reached x a m) b m (reached-room x a m r e.0 l) e.1 l)
-falls x m (Call a b) r l e =
+falls x m (Ok (Call a b)) r l e =
     let k : m % 256 * 2 < 512 = omega arith in
     omega (arith, reached-left x a (m % 256 * 2) r e.0 k, gone-left (reached x a (m % 256 * 2)) b (m % 256) (reached-room x a (m % 256 * 2) r e.0 k) e.1 (omega arith))
 
 -- ---- the ways of a call and a return
-call-way : (a b d : ℕ) → d < 8 → at_depth (Call a b) d ≡ ways.Both (point a (d + 1)) (point b d)
+call-way : (a b d : ℕ) → d < 8 → at_depth (Ok (Call a b)) d ≡ ways.Both (point a (d + 1)) (point b d)
 call-way a b d h = simp (lt-leb _ _ h)
 
-back-leads : (d : ℕ) (q : Point) → Leads (at_depth Back d) q → ⊥
+back-leads : (d : ℕ) (q : Point) → Leads (at_depth (Ok Back) d) q → ⊥
 back-leads d q = either (λ w. Leads w q → ⊥) (eqb d 0) (ways.Bad Unavailable) ways.Nowhere (λ _ l. l) (λ _ l. l)
 
-call-leads : (a b d : ℕ) (q : Point) → Leads (at_depth (Call a b) d) q → (d < 8) × ((q ≡ point a (d + 1)) ⊎ (q ≡ point b d))
+call-leads : (a b d : ℕ) (q : Point) → Leads (at_depth (Ok (Call a b)) d) q → (d < 8) × ((q ≡ point a (d + 1)) ⊎ (q ≡ point b d))
 call-leads a b d q =
     either (λ w. Leads w q → (d < 8) × ((q ≡ point a (d + 1)) ⊎ (q ≡ point b d))) (leb 8 d) (ways.Bad Unavailable) (ways.Both (point a (d + 1)) (point b d))
     (λ _ l. absurd l) (λ u l. (leb-false 8 d u, l))
@@ -74,18 +75,18 @@ call-leads a b d q =
 -- ---- a turn
 module _ (way : Point → Way) (f : Option Found) (E : ℕ → ℕ → Type 0) where
   -- what spreading the depths m of an address that leads so gives
-  abbrev Spread : Walk → ℕ → Paths → Held → Type 0
+  abbrev Spread : Walk → ℕ → Result Paths Refusal → Held → Type 0
   Spread x m paths y = Holds way f E y × Grown x y.walk × ((d : ℕ) (q : Point) → Has m d → Leads (at_depth paths d) q → At y.walk q.address q.depth)
 
   module _ (x : Walk) (m : ℕ) (i : Kept way f E x) (l : m < 512) where
-    spread : (paths : Paths) → EndsIn paths → ((d : ℕ) (q : Point) → Has m d → Leads (at_depth paths d) q → Reach way q) → Spread x m paths (spread_over x m paths)
-    spread (Bad s) e on = let t = taken-holds way f E x i in (t.0, t.1, λ d q h z. absurd z)
-    spread Nowhere e on = let t = taken-holds way f E x i in (t.0, t.1, λ d q h z. absurd z)
-    spread Back e on = let t = taken-holds way f E x i in (t.0, t.1, λ d q h z. absurd (back-leads d q z))
-    spread (To a) e on =
+    spread : (paths : Result Paths Refusal) → EndsIn paths → ((d : ℕ) (q : Point) → Has m d → Leads (at_depth paths d) q → Reach way q) → Spread x m paths (spread_over x m paths)
+    spread (Err s) e on = let t = taken-holds way f E x i in (t.0, t.1, λ d q h z. absurd z)
+    spread (Ok Nowhere) e on = let t = taken-holds way f E x i in (t.0, t.1, λ d q h z. absurd z)
+    spread (Ok Back) e on = let t = taken-holds way f E x i in (t.0, t.1, λ d q h z. absurd (back-leads d q z))
+    spread (Ok (To a)) e on =
         let g = gone-holds way f E x a m i e l (λ d h. on d (point a d) h refl) in
         (g.0, g.1, λ d q h z. subst (λ (p : Point). At (gone x a m).walk p.address p.depth) (sym z) (g.2 d h))
-    spread (Both a b) e on =
+    spread (Ok (Both a b)) e on =
         let s = reached-kept way f E x a m i e.0 l (λ d h. on d (point a d) h (inl refl)) in
         let g = gone-holds way f E (reached x a m) b m s.0 e.1 l (λ d h. on d (point b d) h (inr refl)) in
         let P : Point → Type 0 = λ (p : Point). At (gone (reached x a m) b m).walk p.address p.depth in (
@@ -93,7 +94,7 @@ module _ (way : Point → Way) (f : Option Found) (E : ℕ → ℕ → Type 0) w
           λ c d k. g.1 c d (s.1 c d k),
           λ d q h z. ⊎_elim (λ v. subst P (sym v) (g.1 a d (s.2 d h))) (λ v. subst P (sym v) (g.2 d h)) z,
         )
-    spread (Call a b) e on =
+    spread (Ok (Call a b)) e on =
         let n = m % 256 in
         let to : (d : ℕ) (q : Point) → Has n d → (q ≡ point a (d + 1)) ⊎ (q ≡ point b d) → Reach way q =
         λ d q h z. on d q (caller-has m d h) (subst (λ w. Leads w q) (sym (call-way a b d (caller-low m d h))) z) in
@@ -154,19 +155,19 @@ module _ (way : Point → Way) (ok : Good way) where
   reached_in r = all-points way ok r
 
   -- an address leads to addresses
-  pub ends-in : (a : ℕ) (paths : Paths) → a ≤ 1024 → AtEach way a paths → EndsIn paths
+  pub ends-in : (a : ℕ) (paths : Result Paths Refusal) → a ≤ 1024 → AtEach way a paths → EndsIn paths
   ends-in a paths h each =
       let on : (q : Point) → Leads (at_depth paths 0) q → q.address ≤ 1024 =
       λ q l. (ok (point a 0) q (record { address = h; depth = omega arith }) (subst (λ w. Leads w q) (sym (each 0)) l)).address in
       by paths on
     where
-      by : (paths : Paths) → ((q : Point) → Leads (at_depth paths 0) q → q.address ≤ 1024) → EndsIn paths
-      by (Bad s) on = tt
-      by Nowhere on = tt
-      by Back on = tt
-      by (To b) on = on (point b 0) refl
-      by (Both b c) on = (on (point b 0) (inl refl), on (point c 0) (inr refl))
-      by (Call b c) on = (on (point b 1) (inl refl), on (point c 0) (inr refl))
+      by : (paths : Result Paths Refusal) → ((q : Point) → Leads (at_depth paths 0) q → q.address ≤ 1024) → EndsIn paths
+      by (Err s) on = tt
+      by (Ok Nowhere) on = tt
+      by (Ok Back) on = tt
+      by (Ok (To b)) on = on (point b 0) refl
+      by (Ok (Both b c)) on = (on (point b 0) (inl refl), on (point c 0) (inr refl))
+      by (Ok (Call b c)) on = (on (point b 1) (inl refl), on (point c 0) (inr refl))
 
   pub begin : {x : Walk} {y : Held} → Blank x → y ≡ gone x 0 1 → Going way y None
   begin {x} b e =
@@ -181,7 +182,7 @@ module _ (way : Point → Way) (ok : Good way) where
       (λ d h. subst (λ c. Reach way (point 0 c)) (sym (only_zero d h)) Reach.begin) in
       subst (λ y. Going way y None) (sym e) (record { holds = g.0; begun = g.2 0 refl; real = tt })
 
-  module _ {x : Walk} {a m : ℕ} {z : Held} {f : Option Found} (paths : Paths) (go : Going way (held x a m) f) (each : AtEach way a paths)
+  module _ {x : Walk} {a m : ℕ} {z : Held} {f : Option Found} (paths : Result Paths Refusal) (go : Going way (held x a m) f) (each : AtEach way a paths)
       (e : z ≡ spread_over x m paths) where
     ends : EndsIn paths
     ends = ends-in a paths go.holds.ready.0 each

@@ -1,13 +1,14 @@
 -- The walk's state, and what one look at an address does to it.
-use Rattle.std.specs.Prelude.{ℕ, ◌+◌, ◌-◌, ◌*◌, ◌/◌, ◌%◌, ◌<◌, ◌≤◌, ◌≡◌, ◌⊎◌, List, [], ◌∷◌, Option, Some, None, eqb, ltb, length, get_or, set}
+use Rattle.std.specs.Prelude.{ℕ, ◌+◌, ◌-◌, ◌*◌, ◌/◌, ◌%◌, ◌<◌, ◌≤◌, ◌≡◌, ◌⊎◌, List, [], ◌∷◌, Option, Some, None, Result, Ok, Err, eqb, ltb, length, get_or, set}
 use Rattle.std.specs.Int.{bit_at}
 use Rattle.std.specs.Int.Bits.{bit_or}
 use Rattle.words.specs.Word.{pick}
+use Rattle.status.specs.declared.Refusal.{Refusal}
 use Rattle.status.specs.declared.Status.{Status}
 use Rattle.points.specs.declared.Way.TheVariants as way
 use Rattle.leading.specs.Depths.{at_depth}
 use Rattle.leading.specs.declared.Paths.{Paths}
-use Rattle.leading.specs.declared.Paths.TheVariants.{Bad, Nowhere, Back, To, Both, Call}
+use Rattle.leading.specs.declared.Paths.TheVariants.{Nowhere, Back, To, Both, Call}
 use Rattle.walking.specs.declared.found.Found.{Found}
 use Rattle.walking.specs.declared.walk.Site.{Site}
 
@@ -84,13 +85,13 @@ gone x a m =
     (taken (reached x a m))
 
 -- the depths of an address that leads so
-abbrev pub spread_over : Walk → ℕ → Paths → Held
-spread_over x m (Bad s) = taken x
-spread_over x m Nowhere = taken x
-spread_over x m Back = taken x
-spread_over x m (To a) = gone x a m
-spread_over x m (Both a b) = gone (reached x a m) b m
-spread_over x m (Call a b) = gone (reached x a (m % 256 * 2)) b (m % 256)
+abbrev pub spread_over : Walk → ℕ → Result Paths Refusal → Held
+spread_over x m (Err s) = taken x
+spread_over x m (Ok Nowhere) = taken x
+spread_over x m (Ok Back) = taken x
+spread_over x m (Ok (To a)) = gone x a m
+spread_over x m (Ok (Both a b)) = gone (reached x a m) b m
+spread_over x m (Ok (Call a b)) = gone (reached x a (m % 256 * 2)) b (m % 256)
 
 -- ---- what was found
 abbrev pub found : ℕ → Status → Found
@@ -107,7 +108,7 @@ FoundBy None i = ⊥
 FoundBy (Some f) i = f.number ≤ i
 
 -- g is the lowest of f and the bad points at the address a and the depths m
-pub record Noted (paths : Paths) (a m : ℕ) (f g : Option Found) : Type 0 where
+pub record Noted (paths : Result Paths Refusal) (a m : ℕ) (f g : Option Found) : Type 0 where
   pub lower : (i : ℕ) → FoundBy f i → FoundBy g i
   pub least : (d : ℕ) (t : Status) → Has m d → at_depth paths d ≡ way.Bad t → FoundBy g (a * 9 + d)
   pub real : (g ≡ f) ⊎ ((d : ℕ) × (t : Status) × (g ≡ Some (found (a * 9 + d) t)) × Has m d × (at_depth paths d ≡ way.Bad t))
@@ -126,13 +127,13 @@ pub record Room (x : Walk) : Type 0 where
   pub filled : (k : ℕ) → k < x.n → 0 < depths_at x (get_or x.stack k 0)
 
 -- an address leads to addresses only
-abbrev pub EndsIn : Paths → Type 0
-EndsIn (Bad s) = Unit {0}
-EndsIn Nowhere = Unit {0}
-EndsIn Back = Unit {0}
-EndsIn (To a) = a ≤ 1024
-EndsIn (Both a b) = (a ≤ 1024) × (b ≤ 1024)
-EndsIn (Call a b) = (a ≤ 1024) × (b ≤ 1024)
+abbrev pub EndsIn : Result Paths Refusal → Type 0
+EndsIn (Err s) = Unit {0}
+EndsIn (Ok Nowhere) = Unit {0}
+EndsIn (Ok Back) = Unit {0}
+EndsIn (Ok (To a)) = a ≤ 1024
+EndsIn (Ok (Both a b)) = (a ≤ 1024) × (b ≤ 1024)
+EndsIn (Ok (Call a b)) = (a ≤ 1024) × (b ≤ 1024)
 
 -- nothing reached yet
 pub record Blank (x : Walk) : Type 0 where

@@ -5,7 +5,7 @@ ghost use Rattle.walking.specs.Walk.{lowered, Noted};
 use crate::walk::Site;
 use leading::Paths;
 use points::Point;
-use status::Status;
+use status::{Refusal, Status};
 
 // The greatest depth, from which a call is bad.
 const DEEPEST: u16 = Point::DEEPEST as u16;
@@ -28,18 +28,22 @@ fn lower(found: Option<Found>, number: u16, status: Status) -> Option<Found>
 }
 
 // The lowest of what was found and the bad points of an address that was looked at.
-pub(crate) fn lowest_of(found: Option<Found>, site: Site, paths: Paths) -> Option<Found>
+pub(crate) fn lowest_of(
+    found: Option<Found>,
+    site: Site,
+    paths: Result<Paths, Refusal>,
+) -> Option<Found>
     requires { 0 < site.depths }
     ensures { Noted paths site.address site.depths found result }
 {
     let number = site.address * 9;
     match paths {
-        Paths::Bad(status) => {
+        Err(refusal) => {
             let least = site.depths.trailing_zeros() as u16;
-            lower(found, number + least, status)
+            lower(found, number + least, refusal.into())
         }
-        Paths::Back if site.depths % 2 == 1 => lower(found, number, Status::Unavailable),
-        Paths::Call(_, _) if 256 <= site.depths => {
+        Ok(Paths::Back) if site.depths % 2 == 1 => lower(found, number, Status::Unavailable),
+        Ok(Paths::Call(_, _)) if 256 <= site.depths => {
             lower(found, number + DEEPEST, Status::Unavailable)
         }
         _ => found,

@@ -3,6 +3,7 @@ ghost use Rattle.std.specs.Prelude.{◌<◌, ◌≤◌, ◌≡◌};
 
 use leading::Paths;
 use points::Point;
+use status::Refusal;
 use std::marker::Model;
 
 // The addresses of the records, and the one behind them.
@@ -122,15 +123,15 @@ impl Walk {
     }
 
     // All depths of an address go where they lead. From depth 8, which a mask shows by 256, no call does.
-    pub(crate) fn spread(&mut self, site: Site, paths: Paths) -> Option<Site>
+    pub(crate) fn spread(&mut self, site: Site, paths: Result<Paths, Refusal>) -> Option<Site>
         requires { EndsIn paths }
         ensures { in_hand self.new result ≡ spread_over self.old site.depths paths }
     {
         let depths = site.depths;
         match paths {
-            Paths::Bad(_) | Paths::Nowhere | Paths::Back => self.take(),
-            Paths::To(address) => self.go(Site { address, depths }),
-            Paths::Both(target, next) => {
+            Err(_) | Ok(Paths::Nowhere | Paths::Back) => self.take(),
+            Ok(Paths::To(address)) => self.go(Site { address, depths }),
+            Ok(Paths::Both(target, next)) => {
                 self.reach(Site {
                     address: target,
                     depths,
@@ -140,7 +141,7 @@ impl Walk {
                     depths,
                 })
             }
-            Paths::Call(target, next) => {
+            Ok(Paths::Call(target, next)) => {
                 let callers = depths % 256;
                 self.reach(Site {
                     address: target,

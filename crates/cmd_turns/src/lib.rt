@@ -2,11 +2,17 @@
 #![tactic(auto)]
 
 ghost use Rattle.std.specs.Prelude.{◌≡◌};
+ghost use Rattle.status.specs.Refusal.{status_of};
 ghost use Rattle.rules.specs.Reading as reading;
+ghost use Rattle.reg_image.specs.Image.{Leaves};
+ghost use Rattle.cmd_turns.specs.Turn.{dropped};
+ghost use Rattle.cmd_turns.specs.Obeyed.{refused};
 
+use reg_image::REGISTERS;
 use registers::Order;
 use status::{Refusal, Status};
 use std::cmp::Ordering;
+use waits::Wait;
 use words::Word;
 
 // What a command leaves of the program: it goes on, a WAIT holds, or it stops.
@@ -62,9 +68,28 @@ pub struct Obeyed {
     pub value: Word,
 }
 
+impl Obeyed {
+    // What is refused answers its status, with value 0.
+    pub fn refused(refusal: Refusal) -> Self
+        ensures { result ≡ refused (status_of refusal) }
+    {
+        Obeyed {
+            status: Status::from(refusal),
+            value: Word { v: 0 },
+        }
+    }
+}
+
 // What is read of something that is on or not: 1 or 0.
 pub fn bit(on: bool) -> Word
     ensures { result ≡ reading.bit on }
 {
     Word { v: i32::from(on) }
+}
+
+// No wait.
+pub fn drop_wait(image: &mut [u32; REGISTERS])
+    ensures { Leaves dropped image.old image.new }
+{
+    reg_image::set_wait(image, Wait::dropped());
 }

@@ -5,7 +5,7 @@ ghost use Rattle.std.specs.Prelude.{◌<◌, ◌≤◌, ◌≡◌, eqb, ◌+ℤ�
 ghost use Rattle.words.specs.Word.{pick, word};
 ghost use Rattle.words.specs.declared.Word.{Word};
 ghost use Rattle.status.specs.declared.Refusal.{Refusal};
-ghost use Rattle.status.specs.declared.Refusal.TheVariants.{Value};
+ghost use Rattle.status.specs.declared.Refusal.TheVariants as refusal;
 ghost use Rattle.settings.specs.Settings.{locked};
 ghost use Rattle.rules.specs.Motion.{within_limit, is_word};
 ghost use Rattle.board.specs.declared.Registers.{Registers};
@@ -14,7 +14,7 @@ ghost use Rattle.cmd_turns.specs.declared.Deed.TheVariants as deed;
 ghost use Rattle.cmd_turns.specs.Decides.{Always, From, Stored};
 
 use cmd_turns::Deed;
-use reg_image::REGISTERS;
+use reg_image::{REGISTERS, Value};
 use registers::Order;
 use status::Refusal;
 use wire::Command;
@@ -28,7 +28,7 @@ const POSITION: usize = 7;
 const ACTUAL: usize = 9;
 
 // The place of global 73.
-const LOCK: usize = 44;
+pub const LOCK: usize = 44;
 
 // A place or a cell as a byte, 0 from 256 on: there are none past 102.
 pub fn narrow(place: usize) -> u8
@@ -41,7 +41,7 @@ pub fn narrow(place: usize) -> u8
 pub fn locked(image: &[u32; REGISTERS]) -> bool
     ensures { result ≡ locked (registers_of image.now).values }
 {
-    order::equals(reg_image::value(image, LOCK), Word { v: 1 })
+    order::equals(reg_image::get_at::<Value>(image, LOCK), Word { v: 1 })
 }
 
 // Whether a velocity is within plus or minus a limit. `!v` is -1 - v, so nothing is negated that has
@@ -56,7 +56,7 @@ fn within_limit(velocity: Word, limit: Word) -> bool
 // A velocity beyond plus or minus a limit is refused.
 fn limited(velocity: Word, limit: Word) -> Result<Word, Refusal>
     ensures within { IfOk result (λ (w : Word). (w ≡ velocity) × (within_limit limit.v velocity.v ≡ true)) }
-    ensures beyond { IfErr result (λ (refusal : Refusal). (refusal ≡ Value) × (within_limit limit.v velocity.v ≡ false)) }
+    ensures beyond { IfErr result (λ (e : Refusal). (e ≡ refusal.Value) × (within_limit limit.v velocity.v ≡ false)) }
 {
     if within_limit(velocity, limit) {
         Ok(velocity)
@@ -70,7 +70,7 @@ pub fn right(c: Command, image: &[u32; REGISTERS]) -> Result<Deed, Refusal>
     ensures { Always 1 c (registers_of image.now) result }
 {
     axis_fields::motor_alone(c)?;
-    let velocity = limited(c.value, reg_image::value(image, LIMIT))?;
+    let velocity = limited(c.value, reg_image::get_at::<Value>(image, LIMIT))?;
     Ok(Deed::Order(Order::Velocity, velocity))
 }
 
@@ -79,7 +79,7 @@ pub fn left(c: Command, image: &[u32; REGISTERS]) -> Result<Deed, Refusal>
     ensures { Always 2 c (registers_of image.now) result }
 {
     axis_fields::motor_alone(c)?;
-    let asked = limited(c.value, reg_image::value(image, LIMIT))?;
+    let asked = limited(c.value, reg_image::get_at::<Value>(image, LIMIT))?;
     Ok(Deed::Order(Order::Velocity, Word { v: -asked.v }))
 }
 
@@ -93,7 +93,7 @@ pub fn stop(c: Command) -> Result<Deed, Refusal>
 
 // Adds to the actual position, where the sum is a word.
 fn move_by(value: Word, actual: Word) -> Result<Deed, Refusal>
-    ensures { result ≡ pick (is_word (actual.v +ℤ value.v)) (Ok (deed.Move (word (actual.v +ℤ value.v)))) (Err Value) }
+    ensures { result ≡ pick (is_word (actual.v +ℤ value.v)) (Ok (deed.Move (word (actual.v +ℤ value.v)))) (Err refusal.Value) }
 {
     let v = actual.v.checked_add(value.v).ok_or(Refusal::Value)?;
     Ok(Deed::Move(Word { v }))
@@ -108,7 +108,7 @@ pub fn mvp(c: Command, image: &[u32; REGISTERS]) -> Result<Deed, Refusal>
     if c.kind == 0 {
         return Ok(Deed::Move(value));
     }
-    move_by(value, reg_image::value(image, ACTUAL))
+    move_by(value, reg_image::get_at::<Value>(image, ACTUAL))
 }
 
 // Setting 50 acts as MVP ABS.
@@ -146,7 +146,7 @@ pub fn gap(c: Command, image: &[u32; REGISTERS]) -> Result<Deed, Refusal>
     ensures { Always 6 c (registers_of image.now) result }
 {
     axis_fields::gap(c)?;
-    Ok(Deed::Number(reg_image::value(image, places::axis_place(c.kind))))
+    Ok(Deed::Number(reg_image::get_at::<Value>(image, places::axis_place(c.kind))))
 }
 
 // STAP.
@@ -158,7 +158,7 @@ pub fn stap(c: Command, image: &[u32; REGISTERS]) -> Result<Deed, Refusal>
         return Err(Refusal::Locked);
     }
     let place = places::axis_place(c.kind);
-    let value = reg_image::value(image, place);
+    let value = reg_image::get_at::<Value>(image, place);
     Ok(Deed::Store(narrow(sheet::cell_of(place)), value))
 }
 

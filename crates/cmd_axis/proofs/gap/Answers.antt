@@ -28,5 +28,5 @@ unfolding judged doing through is_flow is_reading read
 returns c a n m =
     let p = c.axis_place in
     let r = seen a n (registers_of c.args.image.now) in
-    ap (λ (w : Word). on Done (in_core (with_accumulator w) r) m) (c.value.ensures ∙ ap (value_at r.values) p.ensures)
+    ap (λ (w : Word). on Done (in_core (with_accumulator w) r) m) (c.get_at.ensures ∙ ap (value_at r.values) p.ensures)
     ∙ sym (passes 6 c.args.c r m (sym c.in_ok-gap.ensures))

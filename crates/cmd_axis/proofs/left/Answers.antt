@@ -34,7 +34,7 @@ returns-in_err-asked c a n m =
     let e = c.in_err-asked.field-0.0 in
     let beyond = c.in_err-asked.ensures.beyond in
     let same : c.from_residual-in_err-asked.result ≡ Err e = search rules in
-    let limit : parameter 43 r.values ≡ c.value.result = ap (value_at r.values) limit-place ∙ sym c.value.ensures in
+    let limit : parameter 43 r.values ≡ c.get_at.result = ap (value_at r.values) limit-place ∙ sym c.get_at.ensures in
     rw (same, beyond.0)
     (carries 2 c.args.c refl refl r m (sym c.in_ok-motor_alone.ensures)
     (ap (λ (w : Word). left_within w.v c.args.c.value.v) limit ∙ left-beyond _ _ beyond.1))
@@ -45,16 +45,16 @@ overflow_sub-result c =
     let v = c.in_ok-asked.asked.v in
     let f : SFits w32 v = search rules in
     rw (to_z-of_z w32 v f, zero-less v)
-    (negates c.value.result.v v (search rules) f (rw within.0 within.1))
+    (negates c.get_at.result.v v (search rules) f (rw within.0 within.1))
 
 pub returns : goal.returns
 unfolding judged doing is_flow is_reading decided_by
 returns c a n m =
     let r = seen a n (registers_of c.args.image.now) in
     let within = c.in_ok-asked.ensures.within in
-    let limit : parameter 43 r.values ≡ c.value.result = ap (value_at r.values) limit-place ∙ sym c.value.ensures in
+    let limit : parameter 43 r.values ≡ c.get_at.result = ap (value_at r.values) limit-place ∙ sym c.get_at.ensures in
     let v = c.in_ok-asked.asked.v in
     let f : SFits w32 v = search rules in
-    rw (back c.value.result.v v (search rules) f (rw within.0 within.1), within.0)
+    rw (back c.get_at.result.v v (search rules) f (rw within.0 within.1), within.0)
     (carries 2 c.args.c refl refl r m (sym c.in_ok-motor_alone.ensures)
     (ap (λ (w : Word). left_within w.v c.args.c.value.v) limit ∙ left-within _ _ within.1))

@@ -33,7 +33,7 @@ returns-then-c-eq0 c a n m =
 pub returns : goal.returns
 unfolding judged is_flow is_reading decided_by
 returns c a n m =
-    let p = c.value in
+    let p = c.get_at in
     let v = c.args.c.value in
     let r = seen a n (registers_of c.args.image.now) in
     let actual : parameter 52 r.values ≡ p.result = ap (value_at r.values) actual-place ∙ sym p.ensures in

@@ -30,7 +30,7 @@ returns-in_err-velocity c a n m =
     let e = c.in_err-velocity.field-0.0 in
     let beyond = c.in_err-velocity.ensures.beyond in
     let same : c.from_residual-in_err-velocity.result ≡ Err e = search rules in
-    let limit : parameter 43 r.values ≡ c.value.result = ap (value_at r.values) limit-place ∙ sym c.value.ensures in
+    let limit : parameter 43 r.values ≡ c.get_at.result = ap (value_at r.values) limit-place ∙ sym c.get_at.ensures in
     rw (same, beyond.0)
     (carries 1 c.args.c refl refl r m (sym c.in_ok-motor_alone.ensures)
     (ap (λ (w : Word). right_within w.v c.args.c.value.v) limit ∙ right-beyond _ _ beyond.1))
@@ -40,7 +40,7 @@ unfolding judged doing is_flow is_reading decided_by
 returns c a n m =
     let r = seen a n (registers_of c.args.image.now) in
     let within = c.in_ok-velocity.ensures.within in
-    let limit : parameter 43 r.values ≡ c.value.result = ap (value_at r.values) limit-place ∙ sym c.value.ensures in
+    let limit : parameter 43 r.values ≡ c.get_at.result = ap (value_at r.values) limit-place ∙ sym c.get_at.ensures in
     rw within.0
     (carries 1 c.args.c refl refl r m (sym c.in_ok-motor_alone.ensures)
     (ap (λ (w : Word). right_within w.v c.args.c.value.v) limit ∙ right-within _ _ within.1))

@@ -45,8 +45,8 @@ returns c a n m =
     c.narrow.ensures.0
     (omega (arith, e.ensures, cell-low rows p.result, p.ensures, place-low axis x.c.kind, axis_rows))
     ∙ e.ensures in
-    ap (λ (s : ℕ). doing (Store s c.value-value.result) r m) cell
-    ∙ ap (λ (w : Word). doing (Store (cell_of rows p.result) w) r m) c.value-value.ensures
+    ap (λ (s : ℕ). doing (Store s c.get_at-value.result) r m) cell
+    ∙ ap (λ (w : Word). doing (Store (cell_of rows p.result) w) r m) c.get_at-value.ensures
     ∙ carries 7 x.c refl refl r m (sym c.in_ok-stap.ensures)
     (ap (λ (c : ℕ). keep c r.values) (sym p.ensures)
     ∙ unlocked p.result r.values (sym c.locked.ensures ∙ c.if-locked.false))

@@ -22,6 +22,10 @@ ghost use Rattle.reg_range.specs.Range.{stands};
 use reg_image::{REGISTERS, at};
 use words::Word;
 
+mod lent;
+
+pub use lent::fitting;
+
 // How many of eight tests hold.
 fn eight(a: bool, b: bool, c: bool, d: bool, e: bool, f: bool, g: bool, h: bool) -> u32
     ensures { Counts 8 (a && b && c && d && e && f && g && h) result }

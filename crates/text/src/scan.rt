@@ -2,8 +2,8 @@
 //
 // A number fits a signed 64-bit one; digits have no sign but a minus. The digits of bytes are small,
 // and no bytes at all are a minus.
-ghost use Rattle.std.specs.Prelude.{◌≡◌, ◌<◌, ◌≤◌, ◌^◌, [], ℕ, List, ◌↔◌, IsTrue, drop, length};
-ghost use Rattle.std.specs.Option.{option_copied, option_map, SomeIff, IfSome};
+ghost use Rattle.std.specs.Prelude.{◌≡◌, ◌<◌, ◌≤◌, ◌^◌, [], ℕ, List, ◌↔◌, drop, length};
+ghost use Rattle.std.specs.Option.{option_copied, option_map, SomeIff, IfSome, IsSome};
 ghost use Rattle.text.specs.Line.{behind_space};
 ghost use Rattle.text.specs.Numbers.{digit_count, size_of, signed_of, number_from, number_at, word_at, up_to_at, words_at, Reads};
 ghost use Rattle.text.specs.Hex.{digit_value, pair_value, hex_at, pairs_of, Took};
@@ -132,11 +132,11 @@ impl<'a> Words<'a> {
         Words { rest: line }
     }
 
-    // Whether the line is read to its end.
-    pub fn is_empty(&self) -> bool
-        ensures { IsTrue result ↔ (self.now ≡ []) }
+    // Something where the line is read to its end.
+    pub fn end(&self) -> Option<()>
+        ensures { IsSome result ↔ (self.now ≡ []) }
     {
-        self.rest.is_empty()
+        self.rest.is_empty().then_some(())
     }
 
     // The number behind a space. Where there is none, nothing is read.
@@ -150,7 +150,8 @@ impl<'a> Words<'a> {
 
     // The same of a number from 0 to a highest.
     pub fn up_to(&mut self, most: usize) -> Option<usize>
-        ensures { Reads (up_to_at most self.old) self.old result self.new }
+        ensures reads { Reads (up_to_at most self.old) self.old result self.new }
+        ensures bound { IfSome result (λ n. n ≤ most) }
     {
         let (number, rest) = number_at(self.rest)?;
         let amount = usize::try_from(number).ok()?;

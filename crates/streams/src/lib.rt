@@ -1,29 +1,80 @@
-// What the crates that read and write share: bytes read until a room is full, and the line that says what
-// failed and why.
+// What the programs that read and write share: bytes read until a room is full, a file by its name, how
+// many arguments there are, bytes spelled as digits, and the line that says what failed and why.
 #![tactic(auto)]
 
-ghost use Rattle.std.specs.Prelude.{◌≤◌, IfOk, length};
+ghost use Rattle.std.specs.Prelude.{◌≡◌, ◌↔◌, ◌<◌, ◌≤◌, IfErr, IfOk, IsOk, Some, length};
+ghost use Rattle.std.specs.Str.{IsUtf8};
+ghost use Rattle.std.specs.IoError.{raw_os_error};
+ghost use Rattle.streams.specs.Spelled.{spelled};
 
-use std::io;
+use std::env::FillError;
 use std::io::{Read, Write};
+use std::rt::{Env, Files};
+use std::{fmt, fs, io};
 
-// Reads until the room is full, the input ends or a read fails. A turn that reads nothing is the last,
-// so as many turns as the room has bytes are enough.
+// Reads until the room is full, the input ends or a read fails.
 pub fn fill(from: &mut impl Read, room: &mut [u8]) -> io::Result<usize>
     ensures { IfOk result (λ n. n ≤ length room.new) }
 {
     let mut held = 0;
-    for _ in 0..room.len() {
+    while held < room.len() {
         let count = from.read(&mut room[held..])?;
         if count == 0 {
             break;
         }
         held += count;
-        if held == room.len() {
-            break;
-        }
     }
     Ok(held)
+}
+
+// Linux's numbers for a name that is too long and for bytes that are no text.
+pub const NAME_TOO_LONG: i32 = 36;
+
+const NO_TEXT: i32 = 84;
+
+// As many bytes as a file's name has, with the one that ends it, are too many.
+const TOO_MANY: usize = 4096;
+
+// A file's name as std takes it, which is a text.
+pub fn path_of(name: &[u8]) -> io::Result<&str>
+    ensures ok { IsOk result ↔ (length name.now < 4096) × IsUtf8 name.now }
+    ensures path { IfOk result (λ path. path.now ≡ name.now) }
+    ensures too_long { 4096 ≤ length name.now → IfErr result (λ e. raw_os_error e ≡ Some NAME_TOO_LONG) }
+{
+    if TOO_MANY <= name.len() {
+        return Err(io::Error::from_raw_os_error(NAME_TOO_LONG));
+    }
+    str::from_utf8(name).map_err(|_| io::Error::from_raw_os_error(NO_TEXT))
+}
+
+// The file of a name, to be read.
+pub fn open<R: Files>(rt: &R, name: &[u8]) -> io::Result<R::File> {
+    fs::open(rt, path_of(name)?)
+}
+
+// How many arguments there are, the program's own name among them.
+pub fn argument_count(rt: &impl Env) -> usize {
+    (0..usize::MAX)
+        .find(|&place| matches!(rt.arg(place, &mut []), Err(FillError::NotPresent)))
+        .unwrap_or(usize::MAX)
+}
+
+// Bytes as two digits each, single spaces between.
+#[derive(Clone, Copy)]
+pub struct Spelled<'a>(pub &'a [u8]);
+
+impl fmt::Display for Spelled<'_> {
+    ghost output = { λ s. Some (spelled s.0.now) };
+
+    fn fmt<W: fmt::Write>(&self, f: &mut fmt::Formatter<W>) -> fmt::Result {
+        if let [first, rest @ ..] = self.0 {
+            write!(f, "{first:02X}")?;
+            for byte in rest {
+                write!(f, " {byte:02X}")?;
+            }
+        }
+        Ok(())
+    }
 }
 
 // The system's words of an error: as std prints them, they have its number behind them.
@@ -51,6 +102,43 @@ pub fn tell(stream: &impl Print, name: &[u8], error: &io::Error) {
 #[cfg(test)]
 mod tests {
     use super::*;
+
+    // So many arguments of one byte.
+    struct Given(usize);
+
+    impl Env for Given {
+        fn arg(&self, i: usize, buf: &mut [u8]) -> Result<usize, FillError> {
+            if self.0 <= i {
+                return Err(FillError::NotPresent);
+            }
+            if buf.is_empty() {
+                return Err(FillError::TooLong);
+            }
+            Ok(1)
+        }
+
+        fn var(&self, _name: &str, _buf: &mut [u8]) -> Result<usize, FillError> {
+            Err(FillError::NotPresent)
+        }
+
+        fn var_at(&self, _i: usize, _buf: &mut [u8]) -> Result<usize, FillError> {
+            Err(FillError::NotPresent)
+        }
+    }
+
+    #[test]
+    fn the_arguments_are_counted(rt: HostRuntime) {
+        assert_eq!(rt; argument_count(&Given(0)), 0);
+        assert_eq!(rt; argument_count(&Given(3)), 3);
+    }
+
+    #[test]
+    fn bytes_are_spelled(rt: HostRuntime) {
+        let mut said = [b'.'; 12];
+        let mut room: &mut [u8] = &mut said;
+        let _ = write!(room, "{}{}", Spelled(&[]), Spelled(&[0, 0x1f, 0xaa]));
+        assert_eq!(rt; said, *b"00 1F AA....");
+    }
 
     #[test]
     fn the_number_goes(rt: HostRuntime) {

@@ -1,16 +1,14 @@
-// What the programs that read and write share: bytes read until a room is full, a file by its name, how
-// many arguments there are, bytes spelled as digits, and the line that says what failed and why.
+// What the programs that read and write share: bytes read until a room is full, how many arguments there
+// are, bytes spelled as digits, and the line that says what failed and why.
 #![tactic(auto)]
 
-ghost use Rattle.std.specs.Prelude.{◌≡◌, ◌↔◌, ◌<◌, ◌≤◌, IfErr, IfOk, IsOk, Some, length};
-ghost use Rattle.std.specs.Str.{IsUtf8};
-ghost use Rattle.std.specs.IoError.{raw_os_error};
+ghost use Rattle.std.specs.Prelude.{◌≤◌, IfOk, Some, length};
 ghost use Rattle.streams.specs.Spelled.{spelled};
 
 use std::env::FillError;
 use std::io::{Read, Write};
-use std::rt::{Env, Files};
-use std::{fmt, fs, io};
+use std::rt::Env;
+use std::{fmt, io};
 
 // Reads until the room is full, the input ends or a read fails.
 pub fn fill(from: &mut impl Read, room: &mut [u8]) -> io::Result<usize>
@@ -25,31 +23,6 @@ pub fn fill(from: &mut impl Read, room: &mut [u8]) -> io::Result<usize>
         held += count;
     }
     Ok(held)
-}
-
-// Linux's numbers for a name that is too long and for bytes that are no text.
-pub const NAME_TOO_LONG: i32 = 36;
-
-const NO_TEXT: i32 = 84;
-
-// As many bytes as a file's name has, with the one that ends it, are too many.
-const TOO_MANY: usize = 4096;
-
-// A file's name as std takes it, which is a text.
-pub fn path_of(name: &[u8]) -> io::Result<&str>
-    ensures ok { IsOk result ↔ (length name.now < 4096) × IsUtf8 name.now }
-    ensures path { IfOk result (λ path. path.now ≡ name.now) }
-    ensures too_long { 4096 ≤ length name.now → IfErr result (λ e. raw_os_error e ≡ Some NAME_TOO_LONG) }
-{
-    if TOO_MANY <= name.len() {
-        return Err(io::Error::from_raw_os_error(NAME_TOO_LONG));
-    }
-    str::from_utf8(name).map_err(|_| io::Error::from_raw_os_error(NO_TEXT))
-}
-
-// The file of a name, to be read.
-pub fn open<R: Files>(rt: &R, name: &[u8]) -> io::Result<R::File> {
-    fs::open(rt, path_of(name)?)
 }
 
 // How many arguments there are, the program's own name among them.

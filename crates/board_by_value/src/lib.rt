@@ -32,7 +32,7 @@ fn step_in_place(image: &mut [u32; REGISTERS], program: &[u8], cells: &mut [u8])
         return 23;
     }
     let status = machine::step_alone(image, cells, program);
-    status.number()
+    u8::from(status)
 }
 
 impl Registers {

@@ -47,7 +47,7 @@ pub fn run(image: &mut [u32; REGISTERS], program: &[u8], cells: &mut [u8], budge
     let made = machine::run(image, cells, program, budget);
     let status = made.status;
     Ran {
-        status: status.number(),
+        status: u8::from(status),
         steps: made.steps,
     }
 }

@@ -5,22 +5,24 @@ ghost use Rattle.std.specs.Prelude.{◌≡◌};
 ghost use Rattle.dividing.specs.Divide.{answer_of};
 ghost use Rattle.calculating.specs.Calculate.{calculated};
 
-use dividing::Divided;
+use dividing::ByZero;
 use words::Word;
 
-// The accumulator and a second word under an operation; NOT, the last, is of its operand alone.
-pub fn calculate(kind: u8, accumulator: Word, second: Word, operand: Word) -> Divided
+// The accumulator and a second word under an operation; NOT, the last, is of its operand alone. The
+// operation stays the byte of its command: an enum of nine would be read off it by the same arms.
+#[tactic(auto, unfolding(crate::specs::Calculate::calculated))]
+pub fn calculate(kind: u8, accumulator: Word, second: Word, operand: Word) -> Result<Word, ByZero>
     ensures { answer_of result ≡ calculated kind accumulator.v second.v operand.v }
 {
     match kind {
-        0 => Divided::Done(wrapping::add(accumulator, second)),
-        1 => Divided::Done(wrapping::sub(accumulator, second)),
-        2 => Divided::Done(wrapping::mul(accumulator, second)),
+        0 => Ok(wrapping::add(accumulator, second)),
+        1 => Ok(wrapping::sub(accumulator, second)),
+        2 => Ok(wrapping::mul(accumulator, second)),
         3 => dividing::div(accumulator, second),
         4 => dividing::modulo(accumulator, second),
-        5 => Divided::Done(logic::and(accumulator, second)),
-        6 => Divided::Done(logic::or(accumulator, second)),
-        7 => Divided::Done(logic::xor(accumulator, second)),
-        _ => Divided::Done(logic::not(operand)),
+        5 => Ok(logic::and(accumulator, second)),
+        6 => Ok(logic::or(accumulator, second)),
+        7 => Ok(logic::xor(accumulator, second)),
+        _ => Ok(logic::not(operand)),
     }
 }

@@ -1,9 +1,9 @@
 -- A command that the judge lets through comes to what its effect does. Assumes nothing.
 use Prim.Native.Nat.{ℕ, ◌<◌}
 use mathlib.Core.Path.{◌≡◌, refl, sym, ap, ◌∙◌}
-use mathlib.Core.Bool.{Bool, true, false, not}
+use mathlib.Core.Bool.{Bool, true, false}
 use mathlib.Core.List.{List}
-use borrow.Author.Tests.{not-true, not-false, ltb-true, lt-leb, eq-eqb, ne_eqb}
+use borrow.Author.Tests.{ltb-true, lt-leb, eq-eqb, ne_eqb}
 use lib.Dec.{eqb, ltb}
 use lib.IntN.{ℤ, neg_ℤ, ◌+ℤ◌}
 use Rattle.words.specs.Word.{pick, word}
@@ -15,9 +15,8 @@ use Rattle.settings.specs.Settings.{is_global, settable, locked}
 use Rattle.settings.proofs.Counts.{axis_rows}
 use Rattle.fields.specs.Fields.{by_bytes, writable}
 use Rattle.rules.specs.Assigning.{assign, take, keep}
-use Rattle.status.specs.Status.{is_done, is_unknown}
-use Rattle.status.specs.declared.Status.{Status}
-use Rattle.status.specs.declared.Status.TheVariants.{Value, Locked}
+use Rattle.status.specs.Status.{is_done}
+use Rattle.status.specs.declared.Status.TheVariants.{Done, Value, Locked}
 use Rattle.judge.specs.Judge.{judged, numbered, is_flow, is_reading}
 use Rattle.registers.specs.declared.Order.TheVariants.{Velocity}
 use Rattle.rules.specs.Motion.{parameter, within_limit, right_within, left_within, is_word, move_by, move_to}
@@ -27,9 +26,11 @@ use Rattle.rules.specs.Effects as effect
 use Rattle.rules.specs.Deciding.{decided, worked}
 use Rattle.board.specs.declared.Registers.{Registers}
 use Rattle.cmd_turns.specs.Turn.{Turn, work, through, turned}
-use Rattle.cmd_turns.specs.declared.Deed.TheVariants.{Refused, Number, Order, Move, Set}
-use Rattle.cmd_turns.specs.Deed.{doing}
-use Rattle.cmd_turns.proofs.Decides.{known, refuses, passes}
+use Rattle.cmd_turns.specs.declared.Deed.TheVariants.{Number, Move, Set}
+use Rattle.cmd_turns.specs.Deed.{doing, comes_to}
+use Rattle.std.specs.Prelude.{Ok, Err}
+use Rattle.status.specs.declared.Refusal.TheVariants as refusal
+use Rattle.cmd_turns.proofs.Decides.{passes}
 use Rattle.cmd_axis.proofs.Rows.{position-place}
 
 -- an effect, carried out
@@ -41,29 +42,16 @@ module _ (k : ℕ) (c : Command) (f : is_flow k ≡ false) (g : is_reading k ≡
   unfolding through worked
   worked_through = rw (f, g)
 
-  pub carries : {s : Status} {e : Effect} → judged (numbered k c) ≡ s → is_done s ≡ true → decided (numbered k c) r.core r.values ≡ e → carried e r m ≡ turned (numbered k c) r m
-  carries {s = s} j q h =
-      ap (λ (x : Effect). carried x r m) (sym h) ∙ sym worked_through ∙ sym (passes k c s j r m q)
+  -- what the judge lets through is what its effect does
+  pub carries : {e : Effect} → judged (numbered k c) ≡ Done → decided (numbered k c) r.core r.values ≡ e → carried e r m ≡ turned (numbered k c) r m
+  carries j h = ap (λ (x : Effect). carried x r m) (sym h) ∙ sym worked_through ∙ sym (passes k c r m j)
 
 -- a command that reads loads what it reads
 pub loads :
-    (k : ℕ) (c : Command) (r : Registers) (m : List ℕ) {s : Status} → is_flow k ≡ false → is_reading k ≡ true → judged (numbered k c) ≡ s
-    → is_done s ≡ true
+    (k : ℕ) (c : Command) (r : Registers) (m : List ℕ) → is_flow k ≡ false → is_reading k ≡ true → judged (numbered k c) ≡ Done
     → doing (Number (read (numbered k c) r.core r.values r.outputs r.digital r.analog)) r m ≡ turned (numbered k c) r m
 unfolding doing through
-loads k c r m {s = s} f g j q = rw (passes k c s j r m q, f, g)
-
--- what its bytes refuse is refused
-pub refused :
-    (k : ℕ) (c : Command) (r : Registers) (m : List ℕ) {s : Status} {t : Bool} (motor kind value : Bool)
-    → s ≡ by_bytes motor kind value → judged (numbered k c) ≡ by_bytes motor kind value → t ≡ is_done s → not t ≡ true
-    → eqb k 27 ≡ false → doing (Refused s) r m ≡ turned (numbered k c) r m
-refused k c r m {s = s} {t = t} motor kind value e j q h n =
-    refuses k c s (j ∙ sym e) r m n (ap is_unknown e ∙ known true motor kind value true) (sym q ∙ not-true t h)
-
--- what they do not refuse is let through, and has a right motor or bank and a right type
-pub passed : {t done : Bool} → t ≡ done → not t ≡ false → done ≡ true
-passed {t = t} e h = sym e ∙ not-false t h
+loads k c r m f g j = rw (passes k c r m j, f, g)
 
 pub right-type : (motor kind value : Bool) → is_done (by_bytes motor kind value) ≡ true → kind ≡ true
 right-type true true value h = refl
@@ -91,29 +79,32 @@ sets place w r m h = simp (position-place, axis_rows, lt-leb 43 place h) (by (eq
 
 -- ---- what moves the axis
 module _ (r : Registers) (m : List ℕ) where
-  pub turns-right : (l v : ℤ) → doing (pick (within_limit l v) (Order Velocity (word v)) (Refused Value)) r m ≡ carried (right_within l v) r m
-  unfolding doing right_within
-  turns-right l v = by (within_limit l v)
-    where
-      by : (t : Bool) → doing (pick t (Order Velocity (word v)) (Refused Value)) r m ≡ carried (pick t (effect.Turn Velocity (word v)) (effect.Refused Value)) r m
-      by true = refl
-      by false = refl
-
-  pub turns-left : (l v : ℤ) → doing (pick (within_limit l v) (Order Velocity (word (neg_ℤ v))) (Refused Value)) r m ≡ carried (left_within l v) r m
-  unfolding doing left_within
-  turns-left l v = by (within_limit l v)
-    where
-      by : (t : Bool) → doing (pick t (Order Velocity (word (neg_ℤ v))) (Refused Value)) r m ≡ carried (pick t (effect.Turn Velocity (word (neg_ℤ v))) (effect.Refused Value)) r m
-      by true = refl
-      by false = refl
-
-  pub moves : (a v : ℤ) → doing (pick (is_word (a +ℤ v)) (Move (word (a +ℤ v))) (Refused Value)) r m ≡ carried (move_by a v) r m
+  pub moves :
+      (a v : ℤ)
+      → comes_to (pick (is_word (a +ℤ v)) (Ok (Move (word (a +ℤ v)))) (Err refusal.Value)) r m ≡ carried (move_by a v) r m
   unfolding doing move_by
   moves a v = by (is_word (a +ℤ v))
     where
-      by : (t : Bool) → doing (pick t (Move (word (a +ℤ v))) (Refused Value)) r m ≡ carried (pick t (effect.Move (word (a +ℤ v))) (effect.Refused Value)) r m
+      by : (t : Bool) → comes_to (pick t (Ok (Move (word (a +ℤ v)))) (Err refusal.Value)) r m ≡ carried (pick t (effect.Move (word (a +ℤ v))) (effect.Refused Value)) r m
       by true = refl
       by false = refl
+
+module _ (l v : ℤ) where
+  pub right-within : within_limit l v ≡ true → right_within l v ≡ effect.Turn Velocity (word v)
+  unfolding right_within
+  right-within h = rw h
+
+  pub right-beyond : within_limit l v ≡ false → right_within l v ≡ effect.Refused Value
+  unfolding right_within
+  right-beyond h = rw h
+
+  pub left-within : within_limit l v ≡ true → left_within l v ≡ effect.Turn Velocity (word (neg_ℤ v))
+  unfolding left_within
+  left-within h = rw h
+
+  pub left-beyond : within_limit l v ≡ false → left_within l v ≡ effect.Refused Value
+  unfolding left_within
+  left-beyond h = rw h
 
 module _ (w : Word) (values : List ℤ) where
   pub absolute : (kind : ℕ) → kind ≡ 0 → move_to kind w values ≡ effect.Move w

@@ -8,10 +8,9 @@ use lib.ListN.{length, take}
 use Rattle.words.specs.Word.{pick}
 use Rattle.rows.specs.Row.{stored}
 use Rattle.rows.specs.declared.Row.{Row}
-use Rattle.sheet.specs.Sheet.{axis, globals, read_only, rwe_rows, rw_rows, r_rows}
+use Rattle.sheet.specs.Sheet.{axis, rwe_rows, rw_rows, r_rows}
 use Rattle.sheet.specs.Rows.{cells, cell_of}
 use Rattle.sheet.specs.Places.{axis_place}
-use Rattle.settings.specs.Settings.{bank_place}
 
 pub limit-place : axis_place 43 ≡ 4
 unfolding axis rwe_rows rw_rows r_rows

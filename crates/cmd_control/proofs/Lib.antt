@@ -1,2 +1,1 @@
 pub mod Defaulting
-pub mod Storing

@@ -1,15 +1,12 @@
 -- What 128, 129, 131 and 132 make of the registers, part by part.
 use Rattle.std.specs.Prelude.{ℕ, Bool, false, ℤ}
 use Rattle.stack.specs.Stack.{emptied}
-use Rattle.waits.specs.Waits.{dropped_wait}
-use Rattle.registers.specs.Registers.{with_wait, with_running, with_depth, moved}
+use Rattle.registers.specs.Registers.{with_running, with_depth, moved}
 use Rattle.registers.specs.declared.Core.{Core}
 use Rattle.rules.specs.Control as control
 use Rattle.board.specs.declared.Registers.{Registers}
 use Rattle.reg_image.specs.With.{in_core, with_entries, with_download, downloading}
-
-abbrev pub waitless : Registers → Registers
-waitless r = in_core (with_wait dropped_wait) r
+use Rattle.cmd_turns.specs.Turn.{dropped}
 
 -- "stack emptied, wait dropped"
 abbrev pub from : ℕ → Bool → Registers → Registers
@@ -26,4 +23,4 @@ reset r = downloading false (from 0 false r)
 
 -- 132
 abbrev pub started : ℤ → Registers → Registers
-started z r = with_download (control.started z) (waitless r)
+started z r = with_download (control.started z) (dropped r)

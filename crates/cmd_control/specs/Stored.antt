@@ -1,14 +1,8 @@
 -- A command stored in place: its status, the value of its reply, and what is left of the image and the program store.
-use Rattle.std.specs.Prelude.{ℕ, ◌≡◌, true, List, pos}
-use Rattle.words.specs.Word.{word}
-use Rattle.status.specs.declared.Status.{Status}
+use Rattle.std.specs.Prelude.{ℕ, ◌≡◌, true, List}
 use Rattle.rules.specs.Storing.{Kept}
 use Rattle.reg_image.specs.Image.{registers_of, shaped}
 use Rattle.cmd_turns.specs.declared.Obeyed.{Obeyed}
-
--- "value 0; nothing changes"
-abbrev pub refusal : Status → Obeyed
-refusal s = record { status = s; value = word (pos 0) }
 
 pub record Stores (x : Kept) (l : List ℕ) (o : Obeyed) (k p : List ℕ) : Type 0 where
   pub status : o.status ≡ x.obeyed.status

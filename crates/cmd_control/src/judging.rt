@@ -1,8 +1,9 @@
 // The refusals of the control commands, and the value that each answers.
-ghost use Rattle.std.specs.Prelude.{◌<◌, ◌≡◌};
+ghost use Rattle.std.specs.Prelude.{◌≡◌};
+ghost use Rattle.status.specs.Refusal.{judged_as};
 ghost use Rattle.rules.specs.Control as spec;
 
-use status::{Status, in_order};
+use status::{Refusal, in_order};
 use wire::Command;
 use words::Word;
 
@@ -17,58 +18,53 @@ fn is_1234(value: Word) -> bool
 fn begins(kind: u8, value: Word) -> bool
     ensures { result ≡ spec.begins kind value.v }
 {
-    if kind == 0 {
-        true
-    } else {
-        jumping::is_address(value)
-    }
+    kind == 0 || jumping::is_address(value)
 }
 
-// The status of a control command.
-pub(crate) fn status_of(c: Command, running: bool, downloading: bool, locked: bool) -> Status
-    ensures { result ≡ spec.judged c running downloading locked }
+// What refuses a control command.
+#[tactic(auto, unfolding(rules::specs::Control::judged))]
+pub(crate) fn judge(
+    c: Command,
+    running: bool,
+    downloading: bool,
+    locked: bool,
+) -> Result<(), Refusal>
+    ensures { judged_as result ≡ spec.judged c running downloading locked }
 {
-    let number = c.number;
     let kind = c.kind;
     let value = c.value;
-    match number {
-        128 => Status::Done,
+    match c.number {
+        128 | 131 | 133 | 135 => Ok(()),
         129 => in_order(!downloading, true, kind <= 1, begins(kind, value), true),
         130 => in_order(!running & !downloading, true, true, true, true),
-        131 => Status::Done,
         132 => in_order(!running, true, true, jumping::is_address(value), !locked),
-        133 => Status::Done,
         134 => in_order(true, true, kind <= 1, jumping::is_address(value), true),
-        135 => Status::Done,
         137 => in_order(!running, true, true, is_1234(value), !locked),
         255 => in_order(true, true, true, is_1234(value), true),
-        _ => Status::Unknown,
+        _ => Err(Refusal::Unknown),
     }
-}
-
-fn wide(b: u8) -> u32
-    ensures { (result ≡ b) × (result < 256) }
-{
-    b as u32
 }
 
 // 134: a record of the lent program store, its value or its three bytes.
+#[tactic(auto, unfolding(rules::specs::Control::shown))]
 fn show(kind: u8, value: Word, program: &[u8]) -> Word
     ensures { result ≡ spec.shown kind value.v program.now }
 {
-    let record = store::record_at(program, jumping::address_of(value) as usize);
+    let record = store::record_at(program, usize::from(jumping::address_of(value)));
     if kind == 0 {
         return record.value;
     }
-    words::of_bits(wide(record.number) * 65536 + wide(record.kind) * 256 + wide(record.motor))
+    words::of_bits(
+        u32::from(record.number) * 65536 + u32::from(record.kind) * 256 + u32::from(record.motor),
+    )
 }
 
 // The value that a control command answers: what 134 and 135 read, else the value sent.
+#[tactic(auto, unfolding(rules::specs::Control::answer))]
 pub fn answer(c: Command, running: bool, program: &[u8]) -> Word
     ensures { result ≡ spec.answer c running program.now }
 {
-    let number = c.number;
-    match number {
+    match c.number {
         134 => show(c.kind, c.value, program),
         135 => cmd_turns::bit(running),
         _ => c.value,

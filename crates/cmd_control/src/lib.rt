@@ -3,11 +3,12 @@
 #![tactic(auto)]
 
 ghost use Rattle.std.specs.Prelude.{◌≡◌};
+ghost use Rattle.status.specs.Refusal.{judged_as};
 ghost use Rattle.rules.specs.Controlling as controlling;
 ghost use Rattle.reg_image.specs.Image.{registers_of};
 
-use reg_image::REGISTERS;
-use status::Status;
+use reg_image::{Downloading, REGISTERS, Running, get};
+use status::Refusal;
 use wire::Command;
 
 mod defaults;
@@ -20,14 +21,14 @@ pub use judging::answer;
 pub use placing::place;
 pub use recording::store_record;
 
-// The status of a control command.
-pub fn judge(c: Command, image: &[u32; REGISTERS]) -> Status
-    ensures { result ≡ controlling.judged_control c (registers_of image.now) }
+// What refuses a control command.
+pub fn judge(c: Command, image: &[u32; REGISTERS]) -> Result<(), Refusal>
+    ensures { judged_as result ≡ controlling.judged_control c (registers_of image.now) }
 {
-    judging::status_of(
+    judging::judge(
         c,
-        reg_image::running(image),
-        reg_image::downloading(image),
+        get::<Running>(image),
+        get::<Downloading>(image),
         cmd_axis::locked(image),
     )
 }

@@ -1,26 +1,23 @@
 -- Globals and user variables: what a bank and a number name, and what is done with it. Assumes nothing.
-use Prim.Native.Nat.{ℕ, zero, suc, ◌+◌, ◌-◌, ◌<◌}
+use Prim.Native.Nat.{ℕ, zero, suc, ◌+◌, ◌<◌}
 use native.Mathlib.Omega.{arith}
-use mathlib.Core.Path.{◌≡◌, refl, sym, ap, ◌∙◌}
+use mathlib.Core.Path.{◌≡◌, refl}
 use mathlib.Core.Bool.{Bool, true, false}
 use mathlib.Core.List.{List, ◌++◌}
 use borrow.Author.Tests.{ltb-true, eq-eqb, ne_eqb, le-leb, le-ltb}
 use lib.Dec.{eqb, ltb}
 use lib.IntN.{ℤ, pos}
 use lib.ListN.{get_or}
-use mir.Syntax.{w32}
-use mir.Val.{SFits}
 use Rattle.words.specs.Word.{pick, word}
 use Rattle.words.specs.declared.Word.{Word}
 use Rattle.order.specs.Order.{same_w}
-use Rattle.sheet.specs.Sheet.{axis, globals, read_only, rwe_rows, rw_rows, r_rows, user_row}
-use Rattle.sheet.specs.Rows.{parameters, rows, row_at}
+use Rattle.sheet.specs.Sheet.{axis, globals, read_only, rwe_rows, rw_rows, r_rows}
+use Rattle.sheet.specs.Rows.{parameters}
 use Rattle.sheet.specs.Places.{global_in}
-use Rattle.sheet.proofs.Rules.{user_variable}
 use Rattle.values.specs.Values.{value_at}
-use Rattle.settings.specs.Settings.{bank_place, settable, kept, is_global, guarded, locked}
+use Rattle.settings.specs.Settings.{bank_place, kept, is_global, guarded, locked}
 use Rattle.settings.proofs.Counts.{axis_rows, parameter_rows, global-rows, place-low}
-use Rattle.settings.proofs.Users.{global-place, other-bank, lock-place, user-row}
+use Rattle.settings.proofs.Users.{global-place, other-bank}
 use Rattle.status.specs.declared.Status.TheVariants.{Locked}
 use Rattle.fields.specs.Fields.{takes}
 use Rattle.registers.specs.declared.Core.{Core}
@@ -29,8 +26,11 @@ use Rattle.rules.specs.Assigning.{assign}
 use Rattle.rules.specs.Effects as effect
 use Rattle.board.specs.declared.Registers.{Registers}
 use Rattle.cmd_turns.specs.declared.Deed.{Deed}
-use Rattle.cmd_turns.specs.declared.Deed.TheVariants.{Refused, Set, Global}
-use Rattle.cmd_turns.specs.Deed.{doing}
+use Rattle.cmd_turns.specs.declared.Deed.TheVariants.{Global}
+use Rattle.std.specs.Prelude.{Result, Ok, Err}
+use Rattle.status.specs.declared.Refusal.{Refusal}
+use Rattle.status.specs.declared.Refusal.TheVariants as refusal
+use Rattle.cmd_turns.specs.Deed.{doing, comes_to}
 use Rattle.cmd_axis.proofs.Carries.{carried}
 use Rattle.cmd_axis.proofs.Rows.{position-place}
 
@@ -60,16 +60,16 @@ user-assigned n w values =
 abbrev pub lock_word : Word → Word
 lock_word w = pick (same_w w.v (pos 1234)) (word (pos 1)) (word (pos 0))
 
-abbrev pub global_deed : ℕ → Word → Bool → Deed
-global_deed place w b = pick (eqb place 44) (Global 44 (lock_word w)) (pick b (Refused Locked) (Global place w))
+abbrev pub global_deed : ℕ → Word → Bool → Result Deed Refusal
+global_deed place w b = pick (eqb place 44) (Ok (Global 44 (lock_word w))) (pick b (Err refusal.Locked) (Ok (Global place w)))
 
 module _ (w : Word) (r : Registers) (m : List ℕ) where
-  guards : (place : ℕ) (b : Bool) → doing (pick b (Refused Locked) (Global place w)) r m ≡ carried (pick b (effect.Refused Locked) (effect.Global place w)) r m
+  guards : (place : ℕ) (b : Bool) → comes_to (pick b (Err refusal.Locked) (Ok (Global place w))) r m ≡ carried (pick b (effect.Refused Locked) (effect.Global place w)) r m
   unfolding doing
   guards place true = refl
   guards place false = refl
 
-  by_place : (n : ℕ) → n < 4 → doing (global_deed (43 + n) w (locked r.values)) r m ≡ carried (assign (43 + n) w r.values) r m
+  by_place : (n : ℕ) → n < 4 → comes_to (global_deed (43 + n) w (locked r.values)) r m ≡ carried (assign (43 + n) w r.values) r m
   unfolding doing assign is_global guarded kept bank_place parameters axis globals read_only rwe_rows rw_rows r_rows
   by_place zero h = guards 43 (locked r.values)
   by_place (suc zero) h = refl
@@ -77,7 +77,7 @@ module _ (w : Word) (r : Registers) (m : List ℕ) where
   by_place (suc (suc (suc zero))) h = guards 46 (locked r.values)
   by_place (suc (suc (suc (suc n)))) h = absurd (omega arith)
 
-  pub sets-global : (n : ℕ) → global_in n < 4 → doing (global_deed (bank_place 0 n) w (locked r.values)) r m ≡ carried (assign (bank_place 0 n) w r.values) r m
+  pub sets-global : (n : ℕ) → global_in n < 4 → comes_to (global_deed (bank_place 0 n) w (locked r.values)) r m ≡ carried (assign (bank_place 0 n) w r.values) r m
   sets-global n h = rw (global-place n) (by_place (global_in n) h)
 
 -- ---- what is read

@@ -7,68 +7,55 @@ ghost use Rattle.cmd_turns.specs.Decides.{Always, From};
 ghost use Rattle.cmd_numbers.specs.Into.{Into};
 
 use cmd_turns::Deed;
-use dividing::Divided;
-use reg_image::REGISTERS;
-use status::Status;
+use dividing::ByZero;
+use reg_image::{REGISTERS, X};
+use status::Refusal;
 use wire::Command;
 use words::Word;
 
 // A result into the accumulator; a zero divisor is refused.
-fn into_accumulator(res: Divided) -> Deed
-    ensures { Into res result }
+fn into_accumulator(calculated: Result<Word, ByZero>) -> Result<Deed, Refusal>
+    ensures { Into calculated result }
 {
-    match res {
-        Divided::Done(w) => Deed::Number(w),
-        Divided::ByZero => Deed::Refused(Status::Value),
-    }
+    calculated.map(Deed::Number).or(Err(Refusal::Value))
 }
 
 // CALC: the accumulator and the value.
-pub fn calc(c: Command, accumulator: Word) -> Deed
+pub fn calc(c: Command, accumulator: Word) -> Result<Deed, Refusal>
     ensures { (regs : Registers) → From 19 c accumulator regs result }
 {
-    let judged = number_fields::calc(c);
-    if !judged.is_done() {
-        return Deed::Refused(judged);
-    }
+    number_fields::calc(c)?;
     let value = c.value;
     if c.kind == 9 {
-        return Deed::Number(value);
+        return Ok(Deed::Number(value));
     }
     into_accumulator(calculating::calculate(c.kind, accumulator, value, accumulator))
 }
 
 // COMP: the accumulator against the value.
-pub fn comp(c: Command, accumulator: Word) -> Deed
+pub fn comp(c: Command, accumulator: Word) -> Result<Deed, Refusal>
     ensures { (regs : Registers) → From 20 c accumulator regs result }
 {
-    Deed::Last(order::compare(accumulator, c.value))
+    Ok(Deed::Last(order::compare(accumulator, c.value)))
 }
 
 // CALCX: the accumulator and X.
-pub fn calcx(c: Command, accumulator: Word, image: &[u32; REGISTERS]) -> Deed
+pub fn calcx(c: Command, accumulator: Word, image: &[u32; REGISTERS]) -> Result<Deed, Refusal>
     ensures { From 33 c accumulator (registers_of image.now) result }
 {
-    let judged = number_fields::calcx(c);
-    if !judged.is_done() {
-        return Deed::Refused(judged);
-    }
-    let x = reg_image::x(image);
-    let kind = c.kind;
-    match kind {
-        9 => Deed::Numbers(accumulator, accumulator),
-        10 => Deed::Numbers(x, accumulator),
-        _ => into_accumulator(calculating::calculate(kind, accumulator, x, x)),
+    number_fields::calcx(c)?;
+    let x = reg_image::get::<X>(image);
+    match c.kind {
+        9 => Ok(Deed::Numbers(accumulator, accumulator)),
+        10 => Ok(Deed::Numbers(x, accumulator)),
+        kind => into_accumulator(calculating::calculate(kind, accumulator, x, x)),
     }
 }
 
 // CLE.
-pub fn clear(c: Command) -> Deed
+pub fn clear(c: Command) -> Result<Deed, Refusal>
     ensures { (regs : Registers) → Always 36 c regs result }
 {
-    let judged = number_fields::cle(c);
-    if !judged.is_done() {
-        return Deed::Refused(judged);
-    }
-    Deed::Clear(c.kind)
+    number_fields::cle(c)?;
+    Ok(Deed::Clear(c.kind))
 }

@@ -1,8 +1,10 @@
 -- What each deed does.
-use Rattle.std.specs.Prelude.{ℕ, ◌+◌, List, pos}
+use Rattle.std.specs.Prelude.{ℕ, ◌+◌, List, pos, Result, Ok, Err}
 use Rattle.words.specs.Word.{word}
 use Rattle.words.specs.declared.Word.{Word}
 use Rattle.status.specs.declared.Status.TheVariants.{Done}
+use Rattle.status.specs.declared.Refusal.{Refusal}
+use Rattle.status.specs.Refusal.{status_of}
 use Rattle.store.specs.Store.{put_cell}
 use Rattle.sheet.specs.Rows.{rows, cell_of}
 use Rattle.sheet.specs.Places.{axis_place}
@@ -19,7 +21,6 @@ use Rattle.reg_image.specs.Rows.{set_output, set_value_at}
 use Rattle.cmd_turns.specs.declared.Left.TheVariants.{Holds, Stops}
 use Rattle.cmd_turns.specs.declared.Deed.{Deed}
 use Rattle.cmd_turns.specs.declared.Deed.TheVariants.{
-  Refused,
   Number,
   Numbers,
   Jump,
@@ -56,7 +57,6 @@ cleared_flags kind c =
     c
 
 unfoldable pub doing : Deed → Registers → List ℕ → Turn
-doing (Refused s) r m = on s r m
 doing (Number w) r m = on Done (in_core (with_accumulator w) r) m
 doing (Numbers w x) r m = on Done (in_core (with_numbers w x) r) m
 doing (Jump a) r m = to a Done r m
@@ -75,10 +75,15 @@ doing (Held w) r m = turn (in_core (with_wait (armed_with w.v)) r) m Done Holds
 doing Waits r m = turn r m Done Holds
 doing Passed r m = on Done (dropped r) m
 doing TimedOut r m = on Done (dropped (in_core (with_eto 1) r)) m
-doing (Dropped s) r m = on s (dropped r) m
+doing (Dropped refusal) r m = on (status_of refusal) (dropped r) m
 doing Halt r m = halted r m
 doing Nothing r m = turn r m Unknown Stops
 doing (User n w) r m = on Done (set_value_at (47 + n) w.v r) m
+
+-- what is decided comes to: a deed is done, a refusal goes on with its status
+abbrev pub comes_to : Result Deed Refusal → Registers → List ℕ → Turn
+comes_to (Ok deed) r m = doing deed r m
+comes_to (Err refusal) r m = on (status_of refusal) r m
 
 -- ---- what a deed is decided from: the image's registers with the accumulator and the address that a run carries
 abbrev pub seen : Word → ℕ → Registers → Registers

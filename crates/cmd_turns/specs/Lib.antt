@@ -3,3 +3,4 @@ pub mod Deed
 pub mod Settled
 pub mod Decides
 pub mod Obeys
+pub mod Obeyed

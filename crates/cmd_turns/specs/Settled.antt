@@ -1,19 +1,16 @@
 -- What a turn makes of a program's registers, and what it answers in direct mode.
-use Rattle.std.specs.Prelude.{ℕ, false, List, pos}
-use Rattle.words.specs.Word.{word, pick}
+use Rattle.std.specs.Prelude.{ℕ, List}
+use Rattle.words.specs.Word.{pick}
 use Rattle.words.specs.declared.Word.{Word}
 use Rattle.wire.specs.declared.Command.{Command}
-use Rattle.waits.specs.Waits.{dropped_wait}
 use Rattle.status.specs.Status.{is_done}
-use Rattle.status.specs.declared.Status.TheVariants.{Unavailable}
 use Rattle.registers.specs.Registers.{stopped}
-use Rattle.registers.specs.declared.Core.{Core}
-use Rattle.judge.specs.Judge.{is_flow, is_reading}
+use Rattle.judge.specs.Judge.{is_reading}
 use Rattle.rules.specs.Direct.{answer}
 use Rattle.board.specs.declared.Registers.{Registers}
 use Rattle.rules.specs.Steps as steps
 use Rattle.rules.specs.Outcome.{Changed, changed, done, refused}
-use Rattle.reg_image.specs.With.{in_core, with_accumulator, with_address}
+use Rattle.reg_image.specs.With.{in_core, with_address}
 use Rattle.cmd_turns.specs.declared.Left.{Left}
 use Rattle.cmd_turns.specs.declared.Left.TheVariants.{Goes, Holds, Stops}
 use Rattle.cmd_turns.specs.Turn.{Turn, dropped}

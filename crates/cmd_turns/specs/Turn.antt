@@ -1,14 +1,12 @@
 -- One command carried out, as a run, 130 and direct mode share it. A wait is dropped by a WAIT alone: what a program drops before any
 -- other step, and what stopping makes of the registers, is settled by the caller (Settled).
-use Rattle.std.specs.Prelude.{ℕ, Bool, List, eqb, leb, ℤ}
+use Rattle.std.specs.Prelude.{ℕ, List, eqb, leb, ℤ}
 use Rattle.words.specs.Word.{pick}
-use Rattle.words.specs.declared.Word.{Word}
 use Rattle.wire.specs.declared.Command.{Command}
 use Rattle.waits.specs.Waits.{dropped_wait}
-use Rattle.waits.specs.declared.Wait.{Wait}
 use Rattle.status.specs.Status.{is_done, is_unknown}
 use Rattle.status.specs.declared.Status.{Status}
-use Rattle.status.specs.declared.Status.TheVariants.{Done, Value, Unknown, Unavailable}
+use Rattle.status.specs.declared.Status.TheVariants.{Done, Value, Unavailable}
 use Rattle.registers.specs.Registers.{with_wait, with_depth, next_address}
 use Rattle.stack.specs.Stack.{pushed, popped}
 use Rattle.stack.specs.declared.Stack.{Stack}

@@ -2,11 +2,17 @@
 #![tactic(auto)]
 
 ghost use Rattle.std.specs.Prelude.{◌≡◌};
+ghost use Rattle.status.specs.Refusal.{status_of};
 ghost use Rattle.rules.specs.Reading as reading;
+ghost use Rattle.reg_image.specs.Image.{Leaves};
+ghost use Rattle.cmd_turns.specs.Turn.{dropped};
+ghost use Rattle.cmd_turns.specs.Obeyed.{refused};
 
-use std::cmp::Ordering;
+use reg_image::REGISTERS;
 use registers::Order;
-use status::Status;
+use status::{Refusal, Status};
+use std::cmp::Ordering;
+use waits::Wait;
 use words::Word;
 
 // What a command leaves of the program: it goes on, a WAIT holds, or it stops.
@@ -17,11 +23,10 @@ pub enum Left {
     Stops,
 }
 
-// What is to be done. A refusal is one of these. Bytes, addresses and words lie at the same offsets in
-// every variant, so that a step takes none of them apart.
+// What is to be done by a command that is not refused. Bytes, addresses and words lie at the same offsets
+// in every variant, so that a step takes none of them apart.
 #[derive(Clone, Copy)]
 pub enum Deed {
-    Refused(Status),
     // The accumulator; accumulator and X.
     Number(Word),
     Numbers(Word, Word),
@@ -41,12 +46,13 @@ pub enum Deed {
     Store(u8, Word),
     // A global: its value and its cell.
     Global(u8, Word),
-    // A WAIT arms with a count and holds; holds on; passes; passes by its count; is refused.
+    // A WAIT arms with a count and holds; holds on; passes; passes by its count; is refused, and the wait
+    // is dropped.
     Held(Word),
     Waits,
     Passed,
     TimedOut,
-    Dropped(Status),
+    Dropped(Refusal),
     // STOP.
     Halt,
     // The command is unknown.
@@ -62,9 +68,28 @@ pub struct Obeyed {
     pub value: Word,
 }
 
+impl Obeyed {
+    // What is refused answers its status, with value 0.
+    pub fn refused(refusal: Refusal) -> Self
+        ensures { result ≡ refused (status_of refusal) }
+    {
+        Obeyed {
+            status: Status::from(refusal),
+            value: Word { v: 0 },
+        }
+    }
+}
+
 // What is read of something that is on or not: 1 or 0.
 pub fn bit(on: bool) -> Word
     ensures { result ≡ reading.bit on }
 {
-    if on { Word { v: 1 } } else { Word { v: 0 } }
+    Word { v: i32::from(on) }
+}
+
+// No wait.
+pub fn drop_wait(image: &mut [u32; REGISTERS])
+    ensures { Leaves dropped image.old image.new }
+{
+    reg_image::set_wait(image, Wait::dropped());
 }

@@ -8,20 +8,19 @@ ghost use Rattle.std.specs.Prelude.{◌≡◌};
 ghost use Rattle.wire.specs.Frame.{Wrote, command_frame, reply_of};
 ghost use Rattle.display.specs.Display.{answer_of, read_of};
 
-use wire::{Command, Reply, Written};
+use wire::{Command, Reply, WrongLength};
 use words::{Four, byte_in, word_of};
 
-// What reading a reply finds.
-#[derive(Clone, Copy)]
-pub enum Received {
-    Read(Reply),
+// Why lent bytes are no reply: of another length than nine, or with a wrong checksum.
+#[derive(Clone, Copy, PartialEq, Eq, Debug)]
+pub enum Unread {
     Length,
     Checksum,
 }
 
 // A command to the module at an address, into a lent buffer; one of another length than nine is left
 // as it is.
-pub fn build_command(out: &mut [u8], address: u8, command: Command) -> Written
+pub fn build_command(out: &mut [u8], address: u8, command: Command) -> Result<(), WrongLength>
     ensures { Wrote 9 out.old out.new (command_frame address command) result }
 {
     let value = command.value;
@@ -55,16 +54,15 @@ pub fn reply_in(bytes: &[u8]) -> Reply
 }
 
 // The reply in lent bytes of any length.
-pub fn read_reply(s: &[u8]) -> Received
+#[tactic(auto, unfolding(crate::specs::Display::read_of))]
+pub fn read_reply(s: &[u8]) -> Result<Reply, Unread>
     ensures { answer_of result ≡ read_of s.now }
 {
     if s.len() != 9 {
-        return Received::Length;
+        return Err(Unread::Length);
     }
-    if checksum::is_right(s) {
-        let reply = reply_in(s);
-        Received::Read(reply)
-    } else {
-        Received::Checksum
+    if !checksum::is_right(s) {
+        return Err(Unread::Checksum);
     }
+    Ok(reply_in(s))
 }

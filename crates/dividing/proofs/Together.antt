@@ -5,16 +5,17 @@ use Rattle.words.specs.Word.{word}
 use Rattle.wrapping.specs.Wrap.{wrap}
 use Rattle.dividing.specs.Divide.{Answer, answer_of}
 use Rattle.dividing.specs.Laws.{Laws}
-use Rattle.dividing.specs.declared.Divided.{Divided}
-use Rattle.dividing.specs.declared.Divided.TheVariants.{Done, ByZero}
+use Rattle.std.specs.Prelude.{Result, Ok, Err}
+use Rattle.words.specs.declared.Word.{Word}
+use Rattle.dividing.specs.declared.ByZero.{ByZero}
 use Rattle.dividing.proofs.Divisor.{quot-word, rem-word}
 use Rattle.dividing.proofs.Whole.{whole, small, sign_up, sign_down}
 
-pub one_answer : (x y : Divided) → answer_of x ≡ answer_of y → x ≡ y
-one_answer (Done v) (Done w) h = ap (λ (a : Answer). Done (word a.value)) h
-one_answer (Done v) ByZero h = let e = ap (λ (a : Answer). a.status) h in absurd (omega arith)
-one_answer ByZero (Done w) h = let e = ap (λ (a : Answer). a.status) h in absurd (omega arith)
-one_answer ByZero ByZero h = refl
+pub one_answer : (x y : Result Word ByZero) → answer_of x ≡ answer_of y → x ≡ y
+one_answer (Ok v) (Ok w) h = ap (λ (a : Answer). Ok (word a.value)) h
+one_answer (Ok v) (Err f) h = let e = ap (λ (a : Answer). a.status) h in absurd (omega arith)
+one_answer (Err e) (Ok w) h = let e = ap (λ (a : Answer). a.status) h in absurd (omega arith)
+one_answer (Err e) (Err f) h = refl
 
 pub laws : Laws
 unfolding wrap

@@ -1,10 +1,10 @@
 -- "DIV MOD (toward zero; remainder has the dividend's sign; zero divisor 4; -2147483648 by -1 gives -2147483648 and 0)"
-use Rattle.std.specs.Prelude.{ℕ, Bool, false, eqb, ℤ, pos, negsuc}
+use Rattle.std.specs.Prelude.{ℕ, Bool, false, eqb, ℤ, pos, negsuc, Result, Ok, Err}
 use Rattle.std.specs.Int.Signed.{quot_z, rem_z}
 use Rattle.words.specs.Word.{pick}
 use Rattle.wrapping.specs.Wrap.{wrap}
-use Rattle.dividing.specs.declared.Divided.{Divided}
-use Rattle.dividing.specs.declared.Divided.TheVariants.{Done, ByZero}
+use Rattle.words.specs.declared.Word.{Word}
+use Rattle.dividing.specs.declared.ByZero.{ByZero}
 
 abbrev pub is_zero : ℤ → Bool
 is_zero (pos n) = eqb n 0
@@ -23,9 +23,9 @@ abbrev pub by_zero : Answer
 by_zero = record { status = 4; value = pos 0 }
 
 -- the numbers of each answer
-abbrev pub answer_of : Divided → Answer
-answer_of (Done w) = done w.v
-answer_of ByZero = by_zero
+abbrev pub answer_of : Result Word ByZero → Answer
+answer_of (Ok w) = done w.v
+answer_of (Err e) = by_zero
 
 -- DIV: toward zero, wrapped at 32 bits
 abbrev pub divided_w : ℤ → ℤ → Answer

@@ -1,10 +1,11 @@
 -- What a user of division relies on, and worked examples: line 7 of 01's "Proved table" is among them. `negsuc n` is -(n + 1).
-use Rattle.std.specs.Prelude.{◌<◌, ◌≡◌, true, false, ℤ, pos, negsuc, nat_abs, ◌+ℤ◌, ◌*ℤ◌}
+use Rattle.std.specs.Prelude.{◌<◌, ◌≡◌, true, false, ℤ, pos, negsuc, nat_abs, ◌+ℤ◌, ◌*ℤ◌, Result}
 use Rattle.std.specs.Int.Signed.{le_z, quot_z, rem_z}
 use Rattle.std.specs.Int.{w32}
 use Rattle.std.proofs.Common.{SFits}
 use Rattle.dividing.specs.Divide.{is_zero, done, answer_of, divided_w, remainder_w}
-use Rattle.dividing.specs.declared.Divided.{Divided}
+use Rattle.words.specs.declared.Word.{Word}
+use Rattle.dividing.specs.declared.ByZero.{ByZero}
 
 pub record Laws : Type 0 where
   -- "toward zero; remainder has the dividend's sign": a is the quotient times b and the remainder, which is smaller than b
@@ -17,7 +18,7 @@ pub record Laws : Type 0 where
   pub quotient_word : (a b : ℤ) → SFits w32 a → (a ≡ negsuc 2147483647 → b ≡ negsuc 0 → ⊥) → SFits w32 (quot_z a b)
   pub remainder_word : (a b : ℤ) → SFits w32 a → SFits w32 (rem_z a b)
   -- an answer is known by its numbers
-  pub one_answer : (x y : Divided) → answer_of x ≡ answer_of y → x ≡ y
+  pub one_answer : (x y : Result Word ByZero) → answer_of x ≡ answer_of y → x ≡ y
   -- -7 DIV 2 is -3, MOD -1
   pub div_seven : divided_w (negsuc 6) (pos 2) ≡ done (negsuc 2)
   pub mod_seven : remainder_w (negsuc 6) (pos 2) ≡ done (negsuc 0)

@@ -20,20 +20,22 @@ use Rattle.wire.specs.Laws.{Changed}
 use Rattle.wire.specs.declared.Command.{Command}
 use Rattle.wire.specs.declared.Reply.{Reply}
 use Rattle.serial.specs.Serial.{taken_of, taken_status}
-use Rattle.serial.specs.declared.Taken.TheVariants.{NotOurs, Damaged, Whole}
+use Rattle.std.specs.Prelude.{Result, Ok, Err}
+use Rattle.serial.specs.declared.NotTaken.{NotTaken}
+use Rattle.serial.specs.declared.NotTaken.TheVariants.{NotOurs, Damaged}
 use Rattle.wire.proofs.Frames.{made_right, made_value, right-parts, right_made, one_changed}
 use Rattle.display.specs.Display.{Answer, read_of, answer_of, done, refused}
 use Rattle.exchange.specs.Laws.{Laws}
-use Rattle.display.specs.declared.Received.{Received}
-use Rattle.display.specs.declared.Received.TheVariants.{Read, Length, Checksum}
+use Rattle.display.specs.declared.Unread.{Unread}
+use Rattle.display.specs.declared.Unread.TheVariants.{Length, Checksum}
 
-pub command_trip : (address : ℕ) (c : Command) → SFits w32 c.value.v → taken_of address (command_frame address c) ≡ Whole c
+pub command_trip : (address : ℕ) (c : Command) → SFits w32 c.value.v → taken_of address (command_frame address c) ≡ Ok c
 unfolding taken_of frame
 command_trip a c f =
     simp (eq-eqb a a refl, made_right a c.number c.kind c.motor c.value.v)
-    (ap (λ (z : ℤ). Whole (record { number = c.number; kind = c.kind; motor = c.motor; value = word z })) (made_value a c.number c.kind c.motor c.value.v f))
+    (ap (λ (z : ℤ). Ok (record { number = c.number; kind = c.kind; motor = c.motor; value = word z })) (made_value a c.number c.kind c.motor c.value.v f))
 
-pub command_other : (address ours : ℕ) (c : Command) → (address ≡ ours → ⊥) → taken_of ours (command_frame address c) ≡ NotOurs
+pub command_other : (address ours : ℕ) (c : Command) → (address ≡ ours → ⊥) → taken_of ours (command_frame address c) ≡ Err NotOurs
 unfolding taken_of frame
 command_other a o c n = simp (ne_eqb a o n)
 
@@ -48,13 +50,13 @@ reply_trip r f =
 no : {A : Type 0} → ◌≡◌ {A = ℕ} 0 1 → A
 no e = absurd (omega arith)
 
-taken-whole : (x y z : Bool) (k c : Command) (n : ℕ) → pick x (pick y (pick z (Whole k) (Damaged n)) NotOurs) NotOurs ≡ Whole c → (y ≡ true) × ((z ≡ true) × (k ≡ c))
+taken-whole : (x y z : Bool) (k c : Command) (n : ℕ) → pick {A = Result Command NotTaken} x (pick y (pick z (Ok k) (Err (Damaged n))) (Err NotOurs)) (Err NotOurs) ≡ Ok c → (y ≡ true) × ((z ≡ true) × (k ≡ c))
 taken-whole true true true k c n e = (refl, (refl, cc))
 taken-whole true true false k c n e = no cc
 taken-whole true false z k c n e = no cc
 taken-whole false y z k c n e = no cc
 
-pub one_command : (ours : ℕ) (s : List ℕ) (c : Command) → AllBytes s → taken_of ours s ≡ Whole c → s ≡ command_frame ours c
+pub one_command : (ours : ℕ) (s : List ℕ) (c : Command) → AllBytes s → taken_of ours s ≡ Ok c → s ≡ command_frame ours c
 unfolding taken_of
 one_command o s c g h =
     let p = taken-whole (eqb (length s) 9) (eqb (get_or s 0 0) o) (right_frame s) (command_at s 1) c (get_or s 1 0) h in
@@ -85,11 +87,11 @@ one_reply s r g h =
 length-changed : (s : List ℕ) (i b : ℕ) → Changed s i b → length (set s i b) ≡ 9
 length-changed s i b k = length-set s i b ∙ (right-parts s k.right).0
 
-pub command_changed : (ours : ℕ) (s : List ℕ) (i b : ℕ) → Changed s i b → taken_of ours (set s i b) ≡ pick (eqb (get_or (set s i b) 0 0) ours) (Damaged (get_or (set s i b) 1 0)) NotOurs
+pub command_changed : (ours : ℕ) (s : List ℕ) (i b : ℕ) → Changed s i b → taken_of ours (set s i b) ≡ pick (eqb (get_or (set s i b) 0 0) ours) (Err (Damaged (get_or (set s i b) 1 0))) (Err NotOurs)
 unfolding taken_of
 command_changed o s i b k = simp (eq-eqb (length (set s i b)) 9 (length-changed s i b k), one_changed s i b k)
 
-status : (own n : ℕ) (t : Bool) → taken_status own (pick t (Damaged n) NotOurs) ≡ pick t 1 0
+status : (own n : ℕ) (t : Bool) → taken_status own (pick t (Err (Damaged n)) (Err NotOurs)) ≡ pick t 1 0
 status own n true = refl
 status own n false = refl
 
@@ -101,20 +103,20 @@ pub reply_changed : (s : List ℕ) (i b : ℕ) → Changed s i b → read_of (se
 unfolding read_of
 reply_changed s i b k = simp (eq-eqb (length (set s i b)) 9 (length-changed s i b k), one_changed s i b k)
 
-two_pass : taken_of 1 (set (set (command_frame 1 (command 5 4 0 (pos 51200))) 1 4) 2 5) ≡ Whole (command 4 5 0 (pos 51200))
+two_pass : taken_of 1 (set (set (command_frame 1 (command 5 4 0 (pos 51200))) 1 4) 2 5) ≡ Ok (command 4 5 0 (pos 51200))
 unfolding taken_of frame right_frame word_of
 two_pass = refl
 
-pub one_answer : (x y : Received) → answer_of x ≡ answer_of y → x ≡ y
-one_answer (Read q) (Read r) h = ap Read (ap back h)
-one_answer (Read q) Length h = clash (done q) (refused 20) h (λ n. omega arith)
-one_answer (Read q) Checksum h = clash (done q) (refused 1) h (λ n. omega arith)
-one_answer Length (Read r) h = clash (refused 20) (done r) h (λ n. omega arith)
-one_answer Length Length h = refl
-one_answer Length Checksum h = clash (refused 20) (refused 1) h (λ n. omega arith)
-one_answer Checksum (Read r) h = clash (refused 1) (done r) h (λ n. omega arith)
-one_answer Checksum Length h = clash (refused 1) (refused 20) h (λ n. omega arith)
-one_answer Checksum Checksum h = refl
+pub one_answer : (x y : Result Reply Unread) → answer_of x ≡ answer_of y → x ≡ y
+one_answer (Ok q) (Ok r) h = ap Ok (ap back h)
+one_answer (Ok q) (Err Length) h = clash (done q) (refused 20) h (λ n. omega arith)
+one_answer (Ok q) (Err Checksum) h = clash (done q) (refused 1) h (λ n. omega arith)
+one_answer (Err Length) (Ok r) h = clash (refused 20) (done r) h (λ n. omega arith)
+one_answer (Err Length) (Err Length) h = refl
+one_answer (Err Length) (Err Checksum) h = clash (refused 20) (refused 1) h (λ n. omega arith)
+one_answer (Err Checksum) (Ok r) h = clash (refused 1) (done r) h (λ n. omega arith)
+one_answer (Err Checksum) (Err Length) h = clash (refused 1) (refused 20) h (λ n. omega arith)
+one_answer (Err Checksum) (Err Checksum) h = refl
 
 pub laws : Laws
 laws =

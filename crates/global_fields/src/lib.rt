@@ -1,7 +1,9 @@
 // Commands on globals and user variables: banks 0 and 2.
 #![tactic(auto)]
 
-ghost use Rattle.std.specs.Prelude.{◌≡◌};
+ghost use Rattle.std.specs.Prelude.{◌≡◌, eqb, ltb};
+ghost use Rattle.words.specs.Word.{pick};
+ghost use Rattle.sheet.specs.Places.{global_in};
 ghost use Rattle.status.specs.Refusal.{judged_as};
 ghost use Rattle.fields.specs.Fields as spec;
 
@@ -9,32 +11,26 @@ use fields::by_bytes;
 use status::Refusal;
 use wire::Command;
 
+// The globals of bank 0 that can be read. The first of them can be set: 128 and 130 are read only.
+const READABLE: usize = 6;
+
+const SETTABLE: usize = 4;
+
 // Whether a bank has globals or user variables.
 fn is_bank(bank: u8) -> bool
     ensures { result ≡ spec.is_bank bank }
 {
-    if bank == 0 { true } else { bank == 2 }
+    matches!(bank, 0 | 2)
 }
 
-// Whether a bank has a value of a number to read.
-fn has(bank: u8, number: u8) -> bool
-    ensures { result ≡ spec.has bank number }
+// Whether a number is that of a user variable in bank 2, else of one of so many globals.
+fn names<const GLOBALS: usize>(bank: u8, number: u8) -> bool
+    ensures { result ≡ pick (eqb bank 2) (ltb number 56) (ltb (global_in number) GLOBALS) }
 {
     if bank == 2 {
         number < 56
     } else {
-        places::global_place(number) < 6
-    }
-}
-
-// Whether a bank has a value of a number to set: 128 and 130 are read only.
-fn takes(bank: u8, number: u8) -> bool
-    ensures { result ≡ spec.takes bank number }
-{
-    if bank == 2 {
-        number < 56
-    } else {
-        places::global_place(number) < 4
+        places::global_place(number) < GLOBALS
     }
 }
 
@@ -45,22 +41,23 @@ pub fn sgp(c: Command) -> Result<(), Refusal>
     let bank = c.motor;
     let kind = c.kind;
     if bank == 2 {
-        return by_bytes(true, takes(2, kind), true);
+        return by_bytes(true, names::<SETTABLE>(2, kind), true);
     }
     let value = settings::settable(settings::bank_place(bank, kind), c.value);
-    by_bytes(is_bank(bank), takes(bank, kind), value)
+    by_bytes(is_bank(bank), names::<SETTABLE>(bank, kind), value)
 }
 
 // The bank of user variables is told first, here and in `agp`: so the compiler takes the fields one by one.
+#[tactic(auto, unfolding(fields::specs::Fields::has))]
 pub fn ggp(c: Command) -> Result<(), Refusal>
     ensures { judged_as result ≡ spec.ggp c }
 {
     let bank = c.motor;
     let kind = c.kind;
     if bank == 2 {
-        return by_bytes(true, has(2, kind), true);
+        return by_bytes(true, names::<READABLE>(2, kind), true);
     }
-    by_bytes(is_bank(bank), has(bank, kind), true)
+    by_bytes(is_bank(bank), names::<READABLE>(bank, kind), true)
 }
 
 // STGP and RSGP.
@@ -70,13 +67,14 @@ pub fn stgp(c: Command) -> Result<(), Refusal>
     by_bytes(c.motor == 2, c.kind < 56, true)
 }
 
+#[tactic(auto, unfolding(fields::specs::Fields::takes))]
 pub fn agp(c: Command) -> Result<(), Refusal>
     ensures { judged_as result ≡ spec.agp c }
 {
     let bank = c.motor;
     let kind = c.kind;
     if bank == 2 {
-        return by_bytes(true, takes(2, kind), true);
+        return by_bytes(true, names::<SETTABLE>(2, kind), true);
     }
-    by_bytes(is_bank(bank), takes(bank, kind), true)
+    by_bytes(is_bank(bank), names::<SETTABLE>(bank, kind), true)
 }

@@ -7,28 +7,17 @@ ghost use Rattle.std.specs.Prelude.{◌≡◌};
 ghost use Rattle.judge.specs.Judge.{is_flow, is_reading};
 
 // Whether a command is one that only a program has.
+#[tactic(auto, unfolding(crate::specs::Judge::is_flow))]
 pub fn is_flow(number: u8) -> bool
     ensures { result ≡ is_flow number }
 {
-    match number {
-        21 => true,
-        22 => true,
-        23 => true,
-        24 => true,
-        27 => true,
-        28 => true,
-        _ => false,
-    }
+    matches!(number, 21..=24 | 27 | 28)
 }
 
 // Whether a command reads a value, which a program loads into the accumulator.
+#[tactic(auto, unfolding(crate::specs::Judge::is_reading))]
 pub fn is_reading(number: u8) -> bool
     ensures { result ≡ is_reading number }
 {
-    match number {
-        6 => true,
-        10 => true,
-        15 => true,
-        _ => false,
-    }
+    matches!(number, 6 | 10 | 15)
 }

@@ -1,4 +1,5 @@
 -- The laws of replies. Assumes nothing.
+use Rattle.std.specs.Prelude.{Result, Ok, Err}
 use Prim.Native.Nat.{ℕ, ◌<◌, ◌≤◌, ◌%◌}
 use native.Mathlib.Omega.{arith}
 use mathlib.Core.Path.{◌≡◌, refl, sym, ap, subst, ◌∙◌}
@@ -23,8 +24,8 @@ use Rattle.status.specs.Status.{number_of}
 use Rattle.status.specs.declared.Status.{Status}
 use Rattle.status.specs.declared.Status.TheVariants.{Checksum}
 use Rattle.serial.specs.Serial.{taken_of}
-use Rattle.serial.specs.declared.Taken.{Taken}
-use Rattle.serial.specs.declared.Taken.TheVariants.{NotOurs, Damaged, Whole}
+use Rattle.serial.specs.declared.NotTaken.{NotTaken}
+use Rattle.serial.specs.declared.NotTaken.TheVariants.{NotOurs, Damaged}
 use Rattle.display.specs.Display.{read_of}
 use Rattle.exchange.specs.Laws as exchange-laws
 use Rattle.exchange.proofs.Exchange as exchange
@@ -65,25 +66,25 @@ the-exchange = exchange.laws
 no : {A : Type 0} → ◌≡◌ {A = ℕ} 0 1 → A
 no e = absurd (omega arith)
 
-whole-command : (x y z : Bool) (k c : Command) (n : ℕ) → pick x (pick y (pick z (Whole k) (Damaged n)) NotOurs) NotOurs ≡ Whole c
+whole-command : (x y z : Bool) (k c : Command) (n : ℕ) → pick x (pick y (pick z (Ok k) (Err (Damaged n))) (Err NotOurs)) (Err NotOurs) ≡ Ok c
     → c ≡ k
 whole-command true true true k c n e = cc
 whole-command true true false k c n e = no cc
 whole-command true false z k c n e = no cc
 whole-command false y z k c n e = no cc
 
-damaged-number : (x y z : Bool) (k : Command) (n d : ℕ) → pick x (pick y (pick z (Whole k) (Damaged n)) NotOurs) NotOurs ≡ Damaged d → d ≡ n
+damaged-number : (x y z : Bool) (k : Command) (n d : ℕ) → pick x (pick y (pick z (Ok k) (Err (Damaged n))) (Err NotOurs)) (Err NotOurs) ≡ Err (Damaged d) → d ≡ n
 damaged-number true true true k n d e = no cc
 damaged-number true true false k n d e = cc
 damaged-number true false z k n d e = no cc
 damaged-number false y z k n d e = no cc
 
 module _ (ours : ℕ) (s : List ℕ) where
-  whole-record : (c : Command) → taken_of ours s ≡ Whole c → c ≡ command_at s 1
+  whole-record : (c : Command) → taken_of ours s ≡ Ok c → c ≡ command_at s 1
   unfolding taken_of
   whole-record c e = whole-command (eqb (length s) 9) (eqb (get_or s 0 0) ours) (right_frame s) (command_at s 1) c (get_or s 1 0) e
 
-  damaged-byte : (d : ℕ) → taken_of ours s ≡ Damaged d → d ≡ get_or s 1 0
+  damaged-byte : (d : ℕ) → taken_of ours s ≡ Err (Damaged d) → d ≡ get_or s 1 0
   unfolding taken_of
   damaged-byte d e = damaged-number (eqb (length s) 9) (eqb (get_or s 0 0) ours) (right_frame s) (command_at s 1) (get_or s 1 0) d e
 
@@ -110,23 +111,23 @@ module _ (bytes l p m b : List ℕ) (n : ℕ) (k p' m' b' : List ℕ) (a : Answe
   unfolding answered
   opened = let t = each (lent p m b) (stands l) h in rw (t.0, t.1) refl
 
-  reply_reads : (c : Command) → taken_of (byte_of values 66) bytes ≡ Whole c
+  reply_reads : (c : Command) → taken_of (byte_of values 66) bytes ≡ Ok c
       → read_of b' ≡ says values n (get_or bytes 1 0) (commands.obeyed c (registers_of l) p m).value.v
   unfolding received obeyed_by
   reply_reads c w =
       let q = whole-record (byte_of values 66) bytes c w in
       let f = subst (λ (d : Command). SFits w32 (commands.obeyed d (registers_of l) p m).value.v) (sym q) (answer_word bytes 1 l p m) in
       let o = commands.obeyed c (registers_of l) p m in
-      let y = opened ∙ ap (λ (t : Taken). received t x) w in
+      let y = opened ∙ ap (λ (t : Result Command NotTaken). received t x) w in
       ap read_of (a.reply ∙ ap (λ (z : datagrams.After). z.board.reply) y)
       ∙ reads b values o.status c.number o.value nine f
       ∙ (λ i. says values (sym (a.status ∙ ap (λ (z : datagrams.After). z.status) y) i) (q i).number o.value.v)
 
-  damaged_reads : (d : ℕ) → taken_of (byte_of values 66) bytes ≡ Damaged d
+  damaged_reads : (d : ℕ) → taken_of (byte_of values 66) bytes ≡ Err (Damaged d)
       → (n ≡ 1) × (read_of b' ≡ says values 1 (get_or bytes 1 0) (pos 0))
   unfolding received
   damaged_reads d w =
-      let y = opened ∙ ap (λ (t : Taken). received t x) w in (
+      let y = opened ∙ ap (λ (t : Result Command NotTaken). received t x) w in (
         a.status ∙ ap (λ (z : datagrams.After). z.status) y,
         ap read_of (a.reply ∙ ap (λ (z : datagrams.After). z.board.reply) y)
             ∙ reads b values Checksum d (word (pos 0)) nine (record { sfits = omega arith })
@@ -135,13 +136,13 @@ module _ (bytes l p m b : List ℕ) (n : ℕ) (k p' m' b' : List ℕ) (a : Answe
 
 -- ---- no reply
 no_reply : (bytes l p m b : List ℕ) (n : ℕ) (k p' m' b' : List ℕ) → Numbers l → Numbers k → Answers bytes l p m b n k p' m' b'
-    → taken_of (byte_of (registers_of l).values 66) bytes ≡ NotOurs → (k ≡ l) × (p' ≡ p) × (m' ≡ m) × (b' ≡ b)
+    → taken_of (byte_of (registers_of l).values 66) bytes ≡ Err NotOurs → (k ≡ l) × (p' ≡ p) × (m' ≡ m) × (b' ≡ b)
 unfolding received
 no_reply bytes l p m b n k p' m' b' i j a w = by (lent p m b && stands l) refl
   where
     by : (t : Bool) → lent p m b && stands l ≡ t → (k ≡ l) × (p' ≡ p) × (m' ≡ m) × (b' ≡ b)
     by true h =
-        let y = opened bytes l p m b n k p' m' b' a h ∙ ap (λ (t : Taken). received t (board (registers_of l) p m b)) w in
+        let y = opened bytes l p m b n k p' m' b' a h ∙ ap (λ (t : Result Command NotTaken). received t (board (registers_of l) p m b)) w in
         let s = (parts l (each (lent p m b) (stands l) h).1).0 in (
           one_image k l j i (a.stays s) s (a.makes ∙ ap (λ (z : datagrams.After). z.board.registers) y),
           a.program ∙ ap (λ (z : datagrams.After). z.board.program) y,
@@ -150,12 +151,12 @@ no_reply bytes l p m b n k p' m' b' i j a w = by (lent p m b && stands l) refl
         )
     by false h = row-rules.datagram_shut bytes l p m b n k p' m' b' a h
 
-neither : (x y : Bool) (t : Taken) → x && y ≡ false → pick x (pick y t NotOurs) NotOurs ≡ NotOurs
+neither : (x y : Bool) (t : Result Command NotTaken) → x && y ≡ false → pick x (pick y t (Err NotOurs)) (Err NotOurs) ≡ Err NotOurs
 neither true true t e = absurd (false≢true (sym e))
 neither true false t e = refl
 neither false y t e = refl
 
-not_ours : (ours : ℕ) (bytes : List ℕ) → eqb (length bytes) 9 && eqb (get_or bytes 0 0) ours ≡ false → taken_of ours bytes ≡ NotOurs
+not_ours : (ours : ℕ) (bytes : List ℕ) → eqb (length bytes) 9 && eqb (get_or bytes 0 0) ours ≡ false → taken_of ours bytes ≡ Err NotOurs
 unfolding taken_of
 not_ours ours bytes e = neither (eqb (length bytes) 9) (eqb (get_or bytes 0 0) ours) _ e
 

@@ -1,4 +1,5 @@
 -- The laws of steps, runs and 130. Assumes nothing.
+use Rattle.std.specs.Prelude.{Result, Ok}
 use Prim.Native.Nat.{ℕ, zero, suc, ◌<◌}
 use native.Mathlib.Omega.{arith}
 use mathlib.Core.Path.{◌≡◌, refl, sym, ap, subst, ◌∙◌}
@@ -13,8 +14,7 @@ use Rattle.status.specs.Status.{number_of}
 use Rattle.status.specs.declared.Status.TheVariants.{Done, Unknown}
 use Rattle.status.proofs.Statuses.{number-done}
 use Rattle.serial.specs.Serial.{taken_of}
-use Rattle.serial.specs.declared.Taken.{Taken}
-use Rattle.serial.specs.declared.Taken.TheVariants.{Whole}
+use Rattle.serial.specs.declared.NotTaken.{NotTaken}
 use Rattle.rules.specs.Step.{State, Pins, After}
 use Rattle.rules.specs.Run.{Progress, begun, advanced, run, summary}
 use Rattle.rules.specs.RunLaws.{walked}
@@ -176,13 +176,13 @@ module _ (c : Command) (r : Registers) (p m : List ℕ) (q : c.number ≡ 130) w
       (λ e. let s = control-130 (eq-eqb (number_of (controlling.obeyed_control c p r m).obeyed.status) 100 e) in (s.0, s.1, refl))
 
 module _ (bytes l p m b : List ℕ) (n : ℕ) (k p' m' b' : List ℕ) (c : Command) (a : Answers bytes l p m b n k p' m' b')
-    (w : taken_of (byte_of (registers_of l).values 66) bytes ≡ Whole c) where
+    (w : taken_of (byte_of (registers_of l).values 66) bytes ≡ Ok c) where
   abbrev x : Board
   x = board (registers_of l) p m b
 
   opened : lent p m b && stands l ≡ true → answered bytes l p m b ≡ obeyed_by c x
   unfolding answered received
-  opened h = let t = each (lent p m b) (stands l) h in rw (t.0, t.1) (ap (λ (t : Taken). received t x) w)
+  opened h = let t = each (lent p m b) (stands l) h in rw (t.0, t.1) (ap (λ (t : Result Command NotTaken). received t x) w)
 
   obeys : obeyed_by c x ≡ datagrams.after_obeying (commands.obeyed c (registers_of l) p m) c x
   unfolding obeyed_by
@@ -208,7 +208,7 @@ module _ (p : List ℕ) (r : Registers) (m : List ℕ) (low : r.core.address < 1
       (ap (λ (y : State). with_state y r) e, ap (λ (y : State). y.store) e)
 
 refused_130 : (bytes l p m b : List ℕ) (n : ℕ) (k p' m' b' : List ℕ) (c : Command) → Answers bytes l p m b n k p' m' b'
-    → taken_of (byte_of (registers_of l).values 66) bytes ≡ Whole c → c.number ≡ 130 → n ≡ 100 → (registers_of l).core.address < 1024
+    → taken_of (byte_of (registers_of l).values 66) bytes ≡ Ok c → c.number ≡ 130 → n ≡ 100 → (registers_of l).core.address < 1024
     → ((step_once p (registers_of l) m).status ≡ Done → ⊥) → ((step_once p (registers_of l) m).status ≡ Unknown → ⊥)
     → (registers_of k ≡ skipped (registers_of l)) × (m' ≡ m) × (p' ≡ p)
 refused_130 bytes l p m b n k p' m' b' c a w q e low d u =

@@ -1,9 +1,9 @@
 -- What a reply says, read by the display's side.
-use Rattle.std.specs.Prelude.{ℕ, ◌<◌, ◌≡◌, true, false, ◌&&◌, List, eqb, ℤ, pos, length, get_or}
+use Rattle.std.specs.Prelude.{ℕ, ◌<◌, ◌≡◌, true, false, ◌&&◌, List, eqb, ℤ, pos, length, get_or, Ok, Err}
 use Rattle.words.specs.Word.{word}
 use Rattle.wire.specs.declared.Command.{Command}
 use Rattle.serial.specs.Serial.{taken_of}
-use Rattle.serial.specs.declared.Taken.TheVariants.{NotOurs, Damaged, Whole}
+use Rattle.serial.specs.declared.NotTaken.TheVariants.{NotOurs, Damaged}
 use Rattle.display.specs.Display.{Answer, read_of}
 use Rattle.settings.specs.Settings.{bank_place}
 use Rattle.values.specs.Values.{value_at}
@@ -32,16 +32,16 @@ pub record Replies : Type 0 where
   -- "Both addresses are those before the command": the reply to a command, with the status answered, the command byte received and the
   -- value that the command answers
   pub reply_reads : (bytes l p m b : List ℕ) (n : ℕ) (k p' m' b' : List ℕ) (c : Command) → Answers bytes l p m b n k p' m' b'
-      → lent p m b && stands l ≡ true → taken_of (byte_of (registers_of l).values 66) bytes ≡ Whole c
+      → lent p m b && stands l ≡ true → taken_of (byte_of (registers_of l).values 66) bytes ≡ Ok c
       → read_of b' ≡ says (registers_of l).values n (get_or bytes 1 0) (obeyed c (registers_of l) p m).value.v
   -- "1: checksum wrong: value 0"
   pub damaged_reads : (bytes l p m b : List ℕ) (n : ℕ) (k p' m' b' : List ℕ) (d : ℕ) → Answers bytes l p m b n k p' m' b'
-      → lent p m b && stands l ≡ true → taken_of (byte_of (registers_of l).values 66) bytes ≡ Damaged d
+      → lent p m b && stands l ≡ true → taken_of (byte_of (registers_of l).values 66) bytes ≡ Err (Damaged d)
       → (n ≡ 1) × (read_of b' ≡ says (registers_of l).values 1 (get_or bytes 1 0) (pos 0))
   -- "length not 9, or address not ours: no reply; nothing changes", and "only a reply writes" the reply buffer
   pub no_reply : (bytes l p m b : List ℕ) (n : ℕ) (k p' m' b' : List ℕ) → Numbers l → Numbers k → Answers bytes l p m b n k p' m' b'
-      → taken_of (byte_of (registers_of l).values 66) bytes ≡ NotOurs → (k ≡ l) × (p' ≡ p) × (m' ≡ m) × (b' ≡ b)
-  pub not_ours : (ours : ℕ) (bytes : List ℕ) → eqb (length bytes) 9 && eqb (get_or bytes 0 0) ours ≡ false → taken_of ours bytes ≡ NotOurs
+      → taken_of (byte_of (registers_of l).values 66) bytes ≡ Err NotOurs → (k ≡ l) × (p' ≡ p) × (m' ≡ m) × (b' ≡ b)
+  pub not_ours : (ours : ℕ) (bytes : List ℕ) → eqb (length bytes) 9 && eqb (get_or bytes 0 0) ours ≡ false → taken_of ours bytes ≡ Err NotOurs
   -- in range the two address bytes are the values of 76 and 66
   pub reply-address : (l : List ℕ) → stands l ≡ true
       → pos (byte_of (registers_of l).values 76) ≡ (value_at (registers_of l).values (bank_place 0 76)).v

@@ -1,11 +1,10 @@
 -- What 01 says of steps, and of the runs and the 130 that make them.
-use Rattle.std.specs.Prelude.{ℕ, zero, suc, ◌+◌, ◌≤◌, ◌<◌, ◌≡◌, ◌⊎◌, Bool, true, false, ◌&&◌, List, leb}
+use Rattle.std.specs.Prelude.{ℕ, zero, suc, ◌+◌, ◌≤◌, ◌<◌, ◌≡◌, ◌⊎◌, Bool, true, false, ◌&&◌, List, leb, Ok}
 use Rattle.wire.specs.declared.Command.{Command}
 use Rattle.store.specs.Store.{record_at}
 use Rattle.status.specs.Status.{number_of}
 use Rattle.status.specs.declared.Status.TheVariants.{Done, Unknown, Value}
 use Rattle.serial.specs.Serial.{taken_of}
-use Rattle.serial.specs.declared.Taken.TheVariants.{Whole}
 use Rattle.registers.specs.Registers.{moved, stopped}
 use Rattle.judge.specs.Judge.{judged}
 use Rattle.rules.specs.Step.{State, Pins, after, only, step}
@@ -58,7 +57,7 @@ pub record Steps : Type 0 where
   pub armed_holds : (program : List ℕ) (p : Pins) (x : State) → (step program p x).state.core.wait.armed ≡ wait_holds program x
   -- "130 one step": a datagram that is answered 100 and carries 130
   pub single_step : (bytes l p m b : List ℕ) (n : ℕ) (k p' m' b' : List ℕ) (c : Command) → Answers bytes l p m b n k p' m' b'
-      → taken_of (byte_of (registers_of l).values 66) bytes ≡ Whole c → c.number ≡ 130 → n ≡ 100
+      → taken_of (byte_of (registers_of l).values 66) bytes ≡ Ok c → c.number ≡ 130 → n ≡ 100
       → (registers_of k ≡ (step_once p (registers_of l) m).registers) × (m' ≡ (step_once p (registers_of l) m).store) × (p' ≡ p)
   -- "a run equals that many single steps": it leaves what so many of 130's steps leave, and answers the last one's status
   pub run_is_steps : (program : List ℕ) (budget : ℕ) (l m : List ℕ) (r : Ran) (k m' : List ℕ) → Runs program budget l m r k m'
@@ -70,7 +69,7 @@ pub record Steps : Type 0 where
       → lent program m && (stands l && leb budget 1000) ≡ true → Ends program budget (before (registers_of l) m) r.steps
   -- a refused step at the event: 130, whose step has another status than 100 and 2
   pub refused_130 : (bytes l p m b : List ℕ) (n : ℕ) (k p' m' b' : List ℕ) (c : Command) → Answers bytes l p m b n k p' m' b'
-      → taken_of (byte_of (registers_of l).values 66) bytes ≡ Whole c → c.number ≡ 130 → n ≡ 100 → (registers_of l).core.address < 1024
+      → taken_of (byte_of (registers_of l).values 66) bytes ≡ Ok c → c.number ≡ 130 → n ≡ 100 → (registers_of l).core.address < 1024
       → ((step_once p (registers_of l) m).status ≡ Done → ⊥) → ((step_once p (registers_of l) m).status ≡ Unknown → ⊥)
       → (registers_of k ≡ skipped (registers_of l)) × (m' ≡ m) × (p' ≡ p)
   -- and a run that answers one step and another status than 100 and 2

@@ -20,7 +20,7 @@ use Rattle.registers.specs.declared.Order.TheVariants.{Stopped, Velocity, Positi
 use Rattle.board.specs.declared.Registers.{Registers}
 use Rattle.reg_image.specs.Image.{registers_of, shaped, takes, bit, comparison, order, is_on, comparison_of, order_of}
 use Rattle.reg_image.proofs.Places.{shaped-at}
-use Rattle.reg_image.proofs.Laws.{output-at, digital-at, analog-at, entry_at, axis-at, rest_at}
+use Rattle.reg_image.specs.Laws.{output-at, digital-at, analog-at, entry_at, axis-at, rest_at}
 use Rattle.law_rows.specs.Rows.{Numbers}
 
 -- ---- a number of its kind is known by what it stands for

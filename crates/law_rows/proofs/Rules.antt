@@ -1,4 +1,5 @@
 -- The laws of the events of the C door. Assumes nothing.
+use Rattle.std.specs.Prelude.{Result, Ok, Err}
 use Prim.Native.Nat.{ℕ}
 use native.Mathlib.Omega.{arith}
 use mathlib.Core.Path.{◌≡◌, refl, sym, ap, subst, ◌∙◌}
@@ -16,8 +17,9 @@ use Rattle.status.specs.declared.Status.{Status}
 use Rattle.status.specs.declared.Status.TheVariants.{Checksum}
 use Rattle.status.proofs.Statuses.{by-status}
 use Rattle.serial.specs.Serial.{taken_of}
-use Rattle.serial.specs.declared.Taken.{Taken}
-use Rattle.serial.specs.declared.Taken.TheVariants.{NotOurs, Damaged, Whole}
+use Rattle.wire.specs.declared.Command.{Command}
+use Rattle.serial.specs.declared.NotTaken.{NotTaken}
+use Rattle.serial.specs.declared.NotTaken.TheVariants.{NotOurs, Damaged}
 use Rattle.sampling.specs.Sample.{sample_in_range}
 use Rattle.board.specs.Range.{registers_in_range}
 use Rattle.board.specs.declared.Registers.{Registers}
@@ -35,7 +37,7 @@ use Rattle.promises.specs.Commands as command-laws
 use Rattle.promises.proofs.Rules as promises
 use Rattle.promises.proofs.Refusals as refusals
 use Rattle.reg_image.specs.Image.{registers_of, shaped, words}
-use Rattle.reg_image.proofs.Places.{words-length}
+use Rattle.reg_image.specs.Numbers.{words-length}
 use Rattle.reg_range.specs.Range.{stands}
 use Rattle.board_events.specs.Standing.{Told, Is, Leaving}
 use Rattle.board_events.specs.Events.{tick_status, sample_of, sample_status}
@@ -163,11 +165,11 @@ module _ (l : List ℕ) (h : stands l ≡ true) where
       either (λ (s : ℕ). n ≡ s → ⊥) (sample_in_range (sample_of fields)) 100 21 (λ _ q. omega arith) (λ _ q. omega arith)
       (rw h at t.answers)
 
-  received-never-23 : (t : Taken) (x : Board) → (received t x).status ≡ 23 → ⊥
+  received-never-23 : (t : Result Command NotTaken) (x : Board) → (received t x).status ≡ 23 → ⊥
   unfolding received obeyed_by
-  received-never-23 NotOurs x e = omega arith
-  received-never-23 (Damaged n) x e = no-23 Checksum e
-  received-never-23 (Whole c) x e = no-23 (obeyed c x.registers x.program x.store).status e
+  received-never-23 (Err NotOurs) x e = omega arith
+  received-never-23 (Err (Damaged n)) x e = no-23 Checksum e
+  received-never-23 (Ok c) x e = no-23 (obeyed c x.registers x.program x.store).status e
 
   datagram_never_23 : (bytes p m b : List ℕ) (n : ℕ) (k p' m' b' : List ℕ) → Answers bytes l p m b n k p' m' b' → n ≡ 23 → ⊥
   unfolding answered

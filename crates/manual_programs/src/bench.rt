@@ -17,7 +17,7 @@ pub(crate) fn fresh(image: &mut [u32; REGISTERS], program: &mut [u8], cells: &mu
 // A command as the display sends it to address 1, and the line that tells of it begun.
 pub(crate) fn sent(rt: &impl Print, line: &[u8], words_at: usize, command: Command) -> [u8; 9] {
     let mut frame = [0u8; 9];
-    display::build_command(&mut frame, 1, command);
+    let _ = display::build_command(&mut frame, 1, command);
     crate::print::command(rt, line, words_at, &frame);
     frame
 }

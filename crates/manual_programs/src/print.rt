@@ -1,7 +1,7 @@
 // The lines of the trace: headings and remarks as the script has them, and what the board answered and
 // did, set in by two spaces.
 use checking::{Answer, Fault};
-use display::Received;
+use display::Unread;
 use reg_image::REGISTERS;
 use registers::Order;
 use words::Word;
@@ -91,12 +91,12 @@ fn received(rt: &impl Print, reply: &[u8; 9]) {
     text(rt, b", reply ");
     text(rt, &spelled(reply));
     match display::read_reply(reply) {
-        Received::Read(r) => {
+        Ok(r) => {
             labelled(rt, b": status ", r.status as u64);
             labelled_word(rt, b", value ", r.value);
         }
-        Received::Length => text(rt, b": of another length"),
-        Received::Checksum => text(rt, b": damaged"),
+        Err(Unread::Length) => text(rt, b": of another length"),
+        Err(Unread::Checksum) => text(rt, b": damaged"),
     }
 }
 

@@ -8,15 +8,15 @@ ghost use Rattle.numbered.specs.Host as spec;
 
 use checksum::is_right;
 use display::reply_in;
-use wire::{Command, Written};
+use wire::{Command, WrongLength};
 use words::Word;
 
-fn number_of(written: Written) -> u8
+fn number_of(written: Result<(), WrongLength>) -> u8
     ensures { result ≡ written_status written }
 {
     match written {
-        Written::Done => 100,
-        Written::Length => 20,
+        Ok(()) => 100,
+        Err(WrongLength) => 20,
     }
 }
 

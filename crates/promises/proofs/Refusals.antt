@@ -1,4 +1,5 @@
 -- The laws of commands, datagrams and runs. Assumes nothing.
+use Rattle.std.specs.Prelude.{Result, Ok, Err}
 use Prim.Native.Nat.{ℕ}
 use mathlib.Core.Path.{◌≡◌, refl, sym, ap, ◌∙◌}
 use mathlib.Core.Bool.{Bool, true, false, true≢false, ◌&&◌}
@@ -26,8 +27,8 @@ use Rattle.rules.proofs.DirectCases.{by-command}
 use Rattle.keeping.specs.Laws as keep-laws
 use Rattle.keeping.proofs.Rules as keeping
 use Rattle.serial.specs.Serial.{taken_of}
-use Rattle.serial.specs.declared.Taken.{Taken}
-use Rattle.serial.specs.declared.Taken.TheVariants.{NotOurs, Damaged, Whole}
+use Rattle.serial.specs.declared.NotTaken.{NotTaken}
+use Rattle.serial.specs.declared.NotTaken.TheVariants.{NotOurs, Damaged}
 use Rattle.rules.specs.Control as control
 use Rattle.board.specs.Range.{registers_in_range}
 use Rattle.rules.specs.Steps.{state_of, pins_of, with_state, steps, step_once}
@@ -106,12 +107,12 @@ module _ (c : Command) (r : Registers) (p m : List ℕ) where
   single_step e run on = simp (e, run, on)
 
 -- ---- datagrams
-not_ours : (bytes : List ℕ) (x : Board) → taken_of (byte_of x.registers.values 66) bytes ≡ NotOurs → (datagram bytes x).board ≡ x
+not_ours : (bytes : List ℕ) (x : Board) → taken_of (byte_of x.registers.values 66) bytes ≡ Err NotOurs → (datagram bytes x).board ≡ x
 unfolding received
 not_ours bytes x e =
     by-datagram x (λ t y. (received t x).board ≡ x → y.board ≡ x)
     (record { nothing = λ _ _ _ _. refl; damaged = λ _ q. q; whole = λ _ q. q }) bytes
-    (ap (λ (t : Taken). (received t x).board) e)
+    (ap (λ (t : Result Command NotTaken). (received t x).board) e)
 
 shut : (x : Board) (t : After) (a b : Bool) → a && b ≡ false → (pick a (pick b t (unchanged 23 x)) (unchanged 20 x)).board ≡ x
 shut x t true true e = absurd (true≢false e)
@@ -140,10 +141,10 @@ datagram_refused bytes x =
     by-datagram x (λ _. RefusedBy x) (record { nothing = λ _ _ _ _ _. refl; damaged = λ _ _ _. refl; whole = λ c. obeyed-refused c x }) bytes
 
 -- the value of a command that was received is a word
-Fits : Taken → Type 0
-Fits NotOurs = Unit
-Fits (Damaged n) = Unit
-Fits (Whole c) = SFits w32 c.value.v
+Fits : Result Command NotTaken → Type 0
+Fits (Err NotOurs) = Unit
+Fits (Err (Damaged n)) = Unit
+Fits (Ok c) = SFits w32 c.value.v
 
 taken-fits : (ours : ℕ) (s : List ℕ) → AllBytes s → Fits (taken_of ours s)
 unfolding taken_of Fits

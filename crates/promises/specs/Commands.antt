@@ -1,5 +1,5 @@
 -- What is relied on of commands, datagrams and runs.
-use Rattle.std.specs.Prelude.{ℕ, ◌≡◌, Bool, true, false, ◌&&◌, List, leb, length}
+use Rattle.std.specs.Prelude.{ℕ, ◌≡◌, Bool, true, false, ◌&&◌, List, leb, length, Err}
 use Rattle.std.specs.Int.{w32}
 use Rattle.std.proofs.Common.{SFits}
 use Rattle.store.specs.Store.{is_program_store, is_parameter_store}
@@ -8,7 +8,7 @@ use Rattle.wire.specs.declared.Command.{Command}
 use Rattle.status.specs.declared.Status.{Status}
 use Rattle.status.specs.declared.Status.TheVariants.{Done, Stored, Checksum, Unknown, Kind, Value, Locked, Unavailable}
 use Rattle.serial.specs.Serial.{taken_of}
-use Rattle.serial.specs.declared.Taken.TheVariants.{NotOurs}
+use Rattle.serial.specs.declared.NotTaken.TheVariants.{NotOurs}
 use Rattle.board.specs.Range.{registers_in_range}
 use Rattle.rules.specs.Steps.{step_once}
 use Rattle.board.specs.declared.Registers.{Registers}
@@ -42,7 +42,7 @@ pub record Commands : Type 0 where
   pub single_step : (c : Command) (r : Registers) (p m : List ℕ) → c.number ≡ 130 → r.core.running ≡ false → r.download.on ≡ false
       → obeyed c r p m ≡ outcome (done Done c.value (step_once p r m).registers) p (step_once p r m).store
   -- a datagram of another length or to another address changes nothing, the reply buffer included
-  pub not_ours : (bytes : List ℕ) (x : Board) → taken_of (byte_of x.registers.values 66) bytes ≡ NotOurs
+  pub not_ours : (bytes : List ℕ) (x : Board) → taken_of (byte_of x.registers.values 66) bytes ≡ Err NotOurs
       → (datagram bytes x).board ≡ x
   -- nor does one for which lent memory has another length or the registers are out of range, answered 20 and 23
   pub datagram_shut : (bytes : List ℕ) (x : Board) → lent x.program x.store x.reply && registers_in_range x.registers ≡ false

@@ -1,7 +1,7 @@
 -- Counted tests, put together. Assumes nothing.
-use Prim.Native.Nat.{ℕ, ◌+◌, ◌≤◌, ◌<◌, ◌^◌}
+use Prim.Native.Nat.{ℕ, ◌+◌, ◌≤◌}
 use native.Mathlib.Omega.{arith}
-use mathlib.Core.Path.{◌≡◌, refl, ◌∙◌}
+use mathlib.Core.Path.{◌≡◌, refl}
 use mathlib.Core.Bool.{Bool, true, false, ◌&&◌}
 use borrow.Author.Tests.{eq-eqb, ne_eqb, eqb-true, eqb-false}
 use lib.Dec.{eqb}
@@ -28,22 +28,3 @@ together {n} {m} {r} {s} p q =
     let i : r ≤ n = p.within in
     let j : s ≤ m = q.within in
     record { within = omega arith; all = rw (both-full r s n m i j, p.all, q.all) }
-
--- the same count of tests put another way
-pub counts-as : {n r : ℕ} {a b : Bool} → Counts n a r → a ≡ b → Counts n b r
-counts-as p e = record { within = p.within; all = p.all ∙ e }
-
-pub one_of : (b : Bool) {r : ℕ} → r ≡ bit b → Counts 1 b r
-one_of b e = rw e (counted b)
-
-pub eight-of :
-    {a b c d e f g h : Bool} {p q r s t u v w : ℕ}
-    → Counts 1 a p → Counts 1 b q → Counts 1 c r → Counts 1 d s → Counts 1 e t → Counts 1 f u → Counts 1 g v → Counts 1 h w
-    → Counts 8 (a && b && c && d && e && f && g && h) (p + q + r + s + t + u + v + w)
-eight-of i j k l m n o x = together (together (together (together (together (together (together i j) k) l) m) n) o) x
-
-pub same-eight :
-    {a b c d e f g h i j k l m n o p : Bool}
-    → a ≡ i → b ≡ j → c ≡ k → d ≡ l → e ≡ m → f ≡ n → g ≡ o → h ≡ p
-    → (a && b && c && d && e && f && g && h) ≡ (i && j && k && l && m && n && o && p)
-same-eight q r s t u v w x = simp (q, r, s, t, u, v, w, x)

@@ -2,18 +2,15 @@
 use Prim.Native.Nat.{ℕ, zero, suc, ◌+◌, ◌≤◌, ◌<◌}
 use native.Mathlib.Numerals.{add-one}
 use native.Mathlib.Omega.{arith}
-use mathlib.Core.Path.{◌≡◌, refl, sym, ap, ◌∙◌}
+use mathlib.Core.Path.{◌≡◌, refl, ap, ◌∙◌}
 use mathlib.Core.Bool.{Bool, true, ◌&&◌}
 use mathlib.Core.List.{List, [], ◌∷◌, map}
-use lib.Dec.{leb}
-use lib.IntN.{ℤ, pos}
-use lib.ListN.{length, get_or, take, drop}
+use lib.IntN.{ℤ}
+use lib.ListN.{length, get_or, drop}
 use lib.Seq.{drop-cons}
 use Rattle.words.specs.Word.{of_bits}
-use Rattle.words.proofs.Bools.{and_assoc, and-true}
-use Rattle.order.specs.Order.{in_range}
-use Rattle.ranges.specs.Range.{every, bit_in_range}
-use Rattle.reg_image.specs.Image.{part, words, Kind, comparison, takes, kinds, all, shaped}
+use Rattle.ranges.specs.Range.{every}
+use Rattle.reg_image.specs.Image.{part, words, Kind, takes, kinds, all, shaped}
 
 -- ---- each from a place on is of its kind
 abbrev pub kinds_at : List Kind → List ℕ → ℕ → Bool

@@ -1,6 +1,6 @@
 -- The tests in the order of the code and in that of the contract. Assumes nothing.
 use Prim.Native.Nat.{ℕ}
-use mathlib.Core.Path.{◌≡◌, refl, sym, ap, ◌∙◌}
+use mathlib.Core.Path.{◌≡◌, refl, ap, ◌∙◌}
 use mathlib.Core.Bool.{Bool, true, false, ◌&&◌}
 use Rattle.words.proofs.Bools.{and_assoc, and-true}
 use Rattle.sheet.specs.Places.{all_below}

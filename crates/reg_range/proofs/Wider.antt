@@ -1,8 +1,8 @@
 -- What the wider tests leave out: a value that its row allows passes them. Assumes nothing.
 use Prim.Native.Nat.{ℕ, ◌-◌, ◌+◌, ◌<◌, ◌≤◌, ◌^◌, suc}
 use native.Mathlib.Omega.{arith}
-use mathlib.Core.Path.{◌≡◌, refl, ap, ◌∙◌, subst}
-use mathlib.Core.Bool.{Bool, true, false, ◌&&◌}
+use mathlib.Core.Path.{◌≡◌, subst}
+use mathlib.Core.Bool.{Bool, true, false}
 use mathlib.Core.List.{List}
 use borrow.Author.Tests.{leb-true, le-leb}
 use lib.Dec.{leb, ltb}
@@ -19,7 +19,7 @@ use Rattle.sheet.specs.Rows.{rows, parameters, row_at}
 use Rattle.sheet.specs.Sheet.{axis, globals, rwe_rows, rw_rows, r_rows}
 use Rattle.values.specs.Values.{allowed_at}
 use Rattle.reg_image.specs.Image.{registers_of}
-use Rattle.reg_image.proofs.Laws.{axis-at}
+use Rattle.reg_image.specs.Laws.{axis-at}
 
 not_negative : (t : Bool) (n m lo hi : ℕ) → in_range (pos lo) (pos hi) (sel t (pos n) (negsuc m)) ≡ true → leb n hi ≡ true
 not_negative true n m lo hi h = (each (leb lo n) (leb n hi) h).1

@@ -16,27 +16,28 @@ ghost use Rattle.values.specs.Values.{allowed_at};
 ghost use Rattle.ranges.specs.Range as ranges;
 ghost use Rattle.registers.specs.Range as scalars;
 ghost use Rattle.reg_image.specs.Image.{comparison, takes, shaped, registers_of};
-ghost use Rattle.reg_range.specs.Count.{bit, Counts};
+ghost use Rattle.reg_range.specs.Count.{Counts};
 ghost use Rattle.reg_range.specs.Range.{stands};
 
 use reg_image::{REGISTERS, at};
 use words::Word;
 
-// That an image has its length is in its type: lent as a slice, the prover sees it.
-fn sized(_numbers: &[u32]) {}
+mod lent;
 
-fn one(test: bool) -> u32
-    ensures small { result ≤ 1 }
-    ensures counts { result ≡ bit test }
-{
-    if test { 1 } else { 0 }
-}
+pub use lent::fitting;
 
 // How many of eight tests hold.
 fn eight(a: bool, b: bool, c: bool, d: bool, e: bool, f: bool, g: bool, h: bool) -> u32
     ensures { Counts 8 (a && b && c && d && e && f && g && h) result }
 {
-    one(a) + one(b) + one(c) + one(d) + one(e) + one(f) + one(g) + one(h)
+    u32::from(a)
+        + u32::from(b)
+        + u32::from(c)
+        + u32::from(d)
+        + u32::from(e)
+        + u32::from(f)
+        + u32::from(g)
+        + u32::from(h)
 }
 
 // Whether the working value at a place of the sheet is one that its row allows.
@@ -123,7 +124,6 @@ fn fourth_places(image: &[u32; REGISTERS]) -> u32
 fn scalars_in_range(image: &[u32; REGISTERS]) -> bool
     ensures { result ≡ shaped image.now && scalars.core_in_range (registers_of image.now).core && scalars.download_in_range (registers_of image.now).download && ranges.entries_in_range (registers_of image.now).entries && ranges.bits_in_range (registers_of image.now).outputs && ranges.bits_in_range (registers_of image.now).digital && ranges.analog_in_range (registers_of image.now).analog && allowed_at rows (registers_of image.now).values 44 && allowed_at rows (registers_of image.now).values 43 }
 {
-    sized(image);
     first_places(image) + second_places(image) + third_places(image) + fourth_places(image) == 32
 }
 
@@ -197,7 +197,6 @@ fn first_seven(image: &[u32; REGISTERS]) -> u32
 fn most_in_range(image: &[u32; REGISTERS]) -> bool
     ensures { result ≡ values.eight (allowed_at rows (registers_of image.now).values) 34 && values.eight (allowed_at rows (registers_of image.now).values) 26 && values.eight (allowed_at rows (registers_of image.now).values) 18 && values.eight (allowed_at rows (registers_of image.now).values) 10 }
 {
-    sized(image);
     (eight_allowed(image, 34)
         + eight_allowed(image, 26)
         + eight_from_18(image)
@@ -211,7 +210,6 @@ fn most_in_range(image: &[u32; REGISTERS]) -> bool
 fn ends_in_range(image: &[u32; REGISTERS]) -> bool
     ensures { result ≡ (allowed_at rows (registers_of image.now).values 46 && allowed_at rows (registers_of image.now).values 6 && allowed_at rows (registers_of image.now).values 5 && allowed_at rows (registers_of image.now).values 4 && allowed_at rows (registers_of image.now).values 3 && allowed_at rows (registers_of image.now).values 2 && allowed_at rows (registers_of image.now).values 1 && allowed_at rows (registers_of image.now).values 0) && allowed_at rows (registers_of image.now).values 45 && allowed_at rows (registers_of image.now).values 42 && allowed_at rows (registers_of image.now).values 9 && allowed_at rows (registers_of image.now).values 8 && allowed_at rows (registers_of image.now).values 7 }
 {
-    sized(image);
     (first_seven(image) == 8)
         & allowed_at(image, 2)
         & allowed_at(image, 45)

@@ -15,12 +15,14 @@ pub struct Addresses {
     pub module_address: u8,
 }
 
-// Writes a reply of nine bytes, and answers the number of the status.
+// Writes a reply of nine bytes, and answers the number of the status. A buffer of another length stays
+// as it is.
+#[tactic(auto, unfolding(crate::specs::Reply::replied))]
 pub fn reply_with(reply: &mut [u8], from: Addresses, status: Status, number: u8, value: Word) -> u8
     ensures { spec.Replies from status number value reply.old result reply.new }
 {
-    let told = status.number();
-    serial::put_reply(
+    let told = u8::from(status);
+    let _ = serial::put_reply(
         reply,
         Reply {
             reply_address: from.reply_address,

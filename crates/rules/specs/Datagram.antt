@@ -1,13 +1,13 @@
 -- "Order: 20, 23, length, address, 1, ..": the refusals before a command, and the reply. "no reply" leaves the reply buffer too.
-use Rattle.std.specs.Prelude.{ℕ, Bool, ◌&&◌, List, eqb, pos, length}
+use Rattle.std.specs.Prelude.{ℕ, Bool, ◌&&◌, List, eqb, pos, length, Result, Ok, Err}
 use Rattle.store.specs.Store.{is_program_store, is_parameter_store}
 use Rattle.words.specs.Word.{pick, word}
 use Rattle.wire.specs.declared.Command.{Command}
 use Rattle.status.specs.Status.{number_of}
 use Rattle.status.specs.declared.Status.TheVariants.{Checksum}
 use Rattle.serial.specs.Serial.{taken_of}
-use Rattle.serial.specs.declared.Taken.{Taken}
-use Rattle.serial.specs.declared.Taken.TheVariants.{NotOurs, Damaged, Whole}
+use Rattle.serial.specs.declared.NotTaken.{NotTaken}
+use Rattle.serial.specs.declared.NotTaken.TheVariants.{NotOurs, Damaged}
 use Rattle.board.specs.Range.{registers_in_range}
 use Rattle.board.specs.declared.Registers.{Registers}
 use Rattle.rules.specs.Obey.{Outcome, obeyed}
@@ -46,16 +46,16 @@ unfoldable pub obeyed_by : Command → Board → After
 obeyed_by c x = after_obeying (obeyed c x.registers x.program x.store) c x
 
 -- no reply; "1: checksum wrong: value 0; nothing changes", with the command as received; or the command obeyed
-unfoldable pub received : Taken → Board → After
-received NotOurs x = unchanged 0 x
-received (Damaged n) x =
+unfoldable pub received : Result Command NotTaken → Board → After
+received (Err NotOurs) x = unchanged 0 x
+received (Err (Damaged n)) x =
     record {
       board =
           board x.registers x.program x.store
           (replied x.reply (addresses x.registers.values) Checksum n (word (pos 0)));
       status = number_of Checksum;
     }
-received (Whole c) x = obeyed_by c x
+received (Ok c) x = obeyed_by c x
 
 -- "a program store of 7,168 bytes .., a parameter store of 364 bytes .., a reply buffer of 9"
 abbrev pub lent : List ℕ → List ℕ → List ℕ → Bool

@@ -1,4 +1,5 @@
 -- An event that begins the program leaves it at its first point, and its records as they were. Assumes nothing.
+use Rattle.std.specs.Prelude.{Result}
 use Prim.Native.Nat.{ℕ, ◌≤◌}
 use native.Mathlib.Omega.{arith}
 use mathlib.Core.Path.{◌≡◌, refl, sym, ap, ◌∙◌}
@@ -15,7 +16,7 @@ use Rattle.jumping.specs.Jump.{address_of}
 use Rattle.status.specs.Status.{number_of}
 use Rattle.status.proofs.Statuses.{number-done}
 use Rattle.serial.specs.Serial.{taken_of}
-use Rattle.serial.specs.declared.Taken.{Taken}
+use Rattle.serial.specs.declared.NotTaken.{NotTaken}
 use Rattle.rules.specs.Control as control
 use Rattle.board.specs.declared.Registers.{Registers}
 use Rattle.rules.specs.Events as events
@@ -83,7 +84,7 @@ module _ (program : List ℕ) (c : Command) (r : Registers) (m : List ℕ) where
       (λ l h. simp (le-leb 128 c.number l) (λ e. record { records = refl; stands = control-begun h e }))
 
 module _ (x : Board) where
-  abbrev Told : Taken → After → Type 0
+  abbrev Told : Result Command NotTaken → After → Type 0
   Told t a = eqb a.status 100 && carries begins_by t ≡ true → Begun x.program (kept a.board)
 
   told-begun : (bytes : List ℕ) → Told (taken_of (byte_of x.registers.values 66) bytes) (datagram bytes x)

@@ -1,4 +1,5 @@
 -- Every event that is quiet leaves the program standing where it may stand. Assumes nothing.
+use Rattle.std.specs.Prelude.{Result}
 use Prim.Native.Nat.{ℕ}
 use native.Mathlib.Omega.{arith}
 use mathlib.Core.Path.{◌≡◌, refl, sym, ap, ◌∙◌, subst}
@@ -16,7 +17,7 @@ use Rattle.sampling.specs.declared.Sample.{Sample}
 use Rattle.status.specs.Status.{number_of, is_done}
 use Rattle.status.proofs.Statuses.{number-done, all_right}
 use Rattle.serial.specs.Serial.{taken_of}
-use Rattle.serial.specs.declared.Taken.{Taken}
+use Rattle.serial.specs.declared.NotTaken.{NotTaken}
 use Rattle.points.specs.Reach.{Safe}
 use Rattle.rules.specs.Deciding.{decided, worked}
 use Rattle.rules.specs.Control.{judged, begins}
@@ -155,7 +156,7 @@ module _ (c : Command) (r : Registers) (p m : List ℕ) (safe : Safe (way_at p))
 
 -- ---- datagrams
 module _ (x : Board) (safe : Safe (way_at x.program)) (h : Stood x.program x.registers) where
-  abbrev Told : Taken → After → Type 0
+  abbrev Told : Result Command NotTaken → After → Type 0
   Told t a = eqb a.status 100 && carries from_another t ≡ false → Stood x.program a.board.registers
 
   told-stood : (bytes : List ℕ) → Told (taken_of (byte_of x.registers.values 66) bytes) (datagram bytes x)

@@ -1,10 +1,10 @@
 -- The board's events in a row, and the steps that they make.
-use Rattle.std.specs.Prelude.{ℕ, ◌<◌, ◌≡◌, Bool, true, false, not, ◌&&◌, ◌||◌, List, [], ◌∷◌, eqb, pos}
+use Rattle.std.specs.Prelude.{ℕ, ◌<◌, ◌≡◌, Bool, true, false, not, ◌&&◌, ◌||◌, List, [], ◌∷◌, eqb, pos, Result, Ok, Err}
 use Rattle.order.specs.Order.{same_w}
 use Rattle.wire.specs.declared.Command.{Command}
 use Rattle.serial.specs.Serial.{taken_of}
-use Rattle.serial.specs.declared.Taken.{Taken}
-use Rattle.serial.specs.declared.Taken.TheVariants.{NotOurs, Damaged, Whole}
+use Rattle.serial.specs.declared.NotTaken.{NotTaken}
+use Rattle.serial.specs.declared.NotTaken.TheVariants.{NotOurs, Damaged}
 use Rattle.sampling.specs.declared.Sample.{Sample}
 use Rattle.rules.specs.Step.{State}
 use Rattle.rules.specs.Run.{begun}
@@ -53,10 +53,10 @@ after w (run budget store) = world w.program (runs.run w.program budget w.regist
 after w (power-up store) = world w.program (events.powered_up store w.registers).registers
 
 -- ---- commands that were carried out
-abbrev pub carries : (Command → Bool) → Taken → Bool
-carries of NotOurs = false
-carries of (Damaged n) = false
-carries of (Whole c) = of c
+abbrev pub carries : (Command → Bool) → Result Command NotTaken → Bool
+carries of (Err NotOurs) = false
+carries of (Err (Damaged n)) = false
+carries of (Ok c) = of c
 
 -- a datagram that is answered 100 and carries such a command
 abbrev pub obeys : (Command → Bool) → World → List ℕ → List ℕ → List ℕ → Bool

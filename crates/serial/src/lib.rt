@@ -6,37 +6,36 @@ ghost use Rattle.wire.specs.Frame.{Wrote, reply_frame};
 ghost use Rattle.serial.specs.Serial.{taken_of};
 
 use checksum::is_right;
-use wire::{Command, Reply, Written, command_in, put_frame};
+use wire::{Command, Reply, WrongLength, command_in, put_frame};
 
-// What the board makes of a datagram.
-#[derive(Clone, Copy)]
-pub enum Taken {
+// Why a datagram is no command to the board.
+#[derive(Clone, Copy, PartialEq, Eq, Debug)]
+pub enum NotTaken {
     // Of another length, or to another address: no reply.
     NotOurs,
     // A wrong checksum: the reply names the command as received.
     Damaged(u8),
-    Whole(Command),
 }
 
 // What a datagram of any length is to the board whose address is `ours`.
-pub fn take_command(s: &[u8], ours: u8) -> Taken
+#[tactic(auto, unfolding(crate::specs::Serial::taken_of))]
+pub fn take_command(s: &[u8], ours: u8) -> Result<Command, NotTaken>
     ensures { result ≡ taken_of ours s.now }
 {
     if s.len() != 9 {
-        return Taken::NotOurs;
+        return Err(NotTaken::NotOurs);
     }
     if s[0] != ours {
-        return Taken::NotOurs;
+        return Err(NotTaken::NotOurs);
     }
-    if is_right(s) {
-        Taken::Whole(command_in(&s[1..8]))
-    } else {
-        Taken::Damaged(s[1])
+    if !is_right(s) {
+        return Err(NotTaken::Damaged(s[1]));
     }
+    Ok(command_in(&s[1..8]))
 }
 
 // A reply into a lent buffer; one of another length than nine is left as it is.
-pub fn put_reply(out: &mut [u8], reply: Reply) -> Written
+pub fn put_reply(out: &mut [u8], reply: Reply) -> Result<(), WrongLength>
     ensures { Wrote 9 out.old out.new (reply_frame reply) result }
 {
     let value = reply.value;

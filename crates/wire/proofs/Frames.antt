@@ -1,6 +1,6 @@
 -- The laws of frames. Assumes nothing.
 use mathlib.Core.Path.{◌≡◌, refl, sym, ap, ◌∙◌}
-use mathlib.Core.Bool.{Bool, true, false, ◌&&◌, false≢true}
+use mathlib.Core.Bool.{Bool, true, false}
 use mathlib.Core.List.{List, [], ◌∷◌}
 use Prim.Native.Nat.{ℕ, zero, suc, ◌+◌, ◌%◌, ◌<◌}
 use native.Mathlib.Nat.{add_comm, add-mod-mod}
@@ -15,13 +15,13 @@ use mir.Val.{SFits}
 use Rattle.words.specs.declared.Four.{Four}
 use Rattle.words.specs.Bytes.{four_of, four_at, word_at}
 use Rattle.words.specs.Laws.{AllBytes}
-use Rattle.words.proofs.Bools.{same_test}
+use Rattle.words.proofs.Bools.{each, same_test}
 use Rattle.words.proofs.Trips.{split_join, join_split}
 use Rattle.checksum.specs.Checksum.{total, checksum, right_frame}
 use Rattle.wire.specs.Frame.{seven, summed, frame, written_status}
 use Rattle.wire.specs.Laws.{Changed, Laws}
-use Rattle.wire.specs.declared.Written.{Written}
-use Rattle.wire.specs.declared.Written.TheVariants.{Done, Length}
+use Rattle.std.specs.Prelude.{Result, Ok, Err}
+use Rattle.wire.specs.declared.WrongLength.{WrongLength}
 use Rattle.checksum.proofs.Nine.{nine}
 use Rattle.wire.proofs.Parts.{command-part}
 
@@ -34,14 +34,10 @@ unfolding frame
 made_value a b c d v f = split_join v f
 
 -- what a right frame is
-and-true : (a b : Bool) → a && b ≡ true → (a ≡ true) × (b ≡ true)
-and-true true b h = (refl, h)
-and-true false b h = absurd (false≢true h)
-
 pub right-parts : (s : List ℕ) → right_frame s ≡ true → (length s ≡ 9) × (checksum (take 8 s) ≡ get_or s 8 0)
 unfolding right_frame
 right-parts s h =
-    let p = and-true (eqb (length s) 9) (eqb (checksum (take 8 s)) (get_or s 8 0)) h in
+    let p = each (eqb (length s) 9) (eqb (checksum (take 8 s)) (get_or s 8 0)) h in
     (eqb-true (length s) 9 p.0, eqb-true (checksum (take 8 s)) (get_or s 8 0) p.1)
 
 -- a list of the right length is right where its sum is
@@ -125,11 +121,11 @@ sum_changed s i b c r hi hc =
     (λ q. shifted (total (take 8 t)) (get_or s i 0) c hc (q ∙ k))
     (λ q. unshifted (total (take 8 t)) (get_or s i 0) c q ∙ sym k))
 
-pub one_written : (x y : Written) → written_status x ≡ written_status y → x ≡ y
-one_written Done Done h = refl
-one_written Done Length h = absurd (omega arith)
-one_written Length Done h = absurd (omega arith)
-one_written Length Length h = refl
+pub one_written : (x y : Result (Unit {0}) WrongLength) → written_status x ≡ written_status y → x ≡ y
+one_written (Ok u) (Ok v) h = refl
+one_written (Ok u) (Err f) h = absurd (omega arith)
+one_written (Err e) (Ok v) h = absurd (omega arith)
+one_written (Err e) (Err f) h = refl
 
 pub laws : Laws
 laws =

@@ -1,13 +1,12 @@
 -- Commands and replies as bytes (01, "Datagrams and status").
-use Rattle.std.specs.Prelude.{ℕ, ◌+◌, ◌≡◌, List, [], ◌∷◌, ◌++◌, eqb, ℤ, length, get_or, set}
+use Rattle.std.specs.Prelude.{ℕ, ◌+◌, ◌≡◌, List, [], ◌∷◌, ◌++◌, eqb, ℤ, length, get_or, set, Result, Ok, Err}
 use Rattle.words.specs.Word.{pick, word}
 use Rattle.words.specs.Bytes.{four_of, word_at, put_word}
 use Rattle.words.specs.declared.Four.{Four}
 use Rattle.checksum.specs.Checksum.{checksum}
 use Rattle.wire.specs.declared.Command.{Command}
 use Rattle.wire.specs.declared.Reply.{Reply}
-use Rattle.wire.specs.declared.Written.{Written}
-use Rattle.wire.specs.declared.Written.TheVariants.{Done, Length}
+use Rattle.wire.specs.declared.WrongLength.{WrongLength}
 
 -- seven bytes: three, and those of a value, most significant first
 abbrev pub seven : ℕ → ℕ → ℕ → Four → List ℕ
@@ -48,12 +47,12 @@ reply_of s =
       value = word (word_at s 4);
     }
 
-abbrev pub written_status : Written → ℕ
-written_status Done = 100
-written_status Length = 20
+abbrev pub written_status : Result (Unit {0}) WrongLength → ℕ
+written_status (Ok u) = 100
+written_status (Err e) = 20
 
 -- `bytes` into a lent buffer of n: "building a command refuses a buffer other than 9 bytes with 20, writing nothing", and so
 -- "a lent store or buffer of another length"
-pub record Wrote (n : ℕ) (before after bytes : List ℕ) (answer : Written) : Type 0 where
+pub record Wrote (n : ℕ) (before after bytes : List ℕ) (answer : Result (Unit {0}) WrongLength) : Type 0 where
   pub status : written_status answer ≡ pick (eqb (length before) n) 100 20
   pub left : after ≡ pick (eqb (length before) n) bytes before

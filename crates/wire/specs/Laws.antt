@@ -1,13 +1,13 @@
 -- What a user of frames relies on: what is written is right and reads back, a right frame is the one of its fields, and
 -- just how much an 8-bit sum finds.
-use Rattle.std.specs.Prelude.{ℕ, ◌+◌, ◌%◌, ◌≤◌, ◌<◌, ◌≡◌, true, false, List, eqb, ℤ, get_or, set, take, drop}
+use Rattle.std.specs.Prelude.{ℕ, ◌+◌, ◌%◌, ◌≤◌, ◌<◌, ◌≡◌, true, false, List, eqb, ℤ, get_or, set, take, drop, Result}
 use Rattle.std.specs.Int.{w32}
 use Rattle.std.proofs.Common.{SFits}
 use Rattle.words.specs.Bytes.{word_at}
 use Rattle.words.specs.Laws.{AllBytes}
 use Rattle.checksum.specs.Checksum.{right_frame}
 use Rattle.wire.specs.Frame.{frame, command_at, written_status}
-use Rattle.wire.specs.declared.Written.{Written}
+use Rattle.wire.specs.declared.WrongLength.{WrongLength}
 
 -- a right frame in which the byte at place i becomes another byte, b
 pub record Changed (s : List ℕ) (i b : ℕ) : Type 0 where
@@ -33,4 +33,4 @@ pub record Laws : Type 0 where
   pub sum_changed : (s : List ℕ) (i b c : ℕ) → right_frame s ≡ true → i < 8 → c < 256
       → right_frame (set (set s i b) 8 c) ≡ eqb ((get_or s i 0 + c) % 256) ((b + get_or s 8 0) % 256)
   -- an answer is known by its number
-  pub one_written : (x y : Written) → written_status x ≡ written_status y → x ≡ y
+  pub one_written : (x y : Result (Unit {0}) WrongLength) → written_status x ≡ written_status y → x ≡ y

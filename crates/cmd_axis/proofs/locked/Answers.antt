@@ -5,4 +5,4 @@ use Rattle.cmd_axis.proofs.locked.Goals as goal
 
 pub returns : goal.returns
 unfolding locked
-returns c = simp (c.equals.ensures, c.value.ensures, lock-place)
+returns c = simp (c.equals.ensures, c.get_at.ensures, lock-place)

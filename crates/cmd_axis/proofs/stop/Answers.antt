@@ -1,24 +1,23 @@
--- `cmd_axis::stop`.
-use mathlib.Core.Path.{refl, sym, ◌∙◌}
+use mathlib.Core.Path.{◌≡◌, refl, sym}
 use mathlib.Core.Bool.{true}
-use borrow.Author.Tests.{not-false}
+use borrow.Author.Rules.{rules}
+use Rattle.std.specs.Prelude.{Err}
+use Rattle.cmd_turns.specs.Deed.{seen, doing}
+use Rattle.cmd_turns.proofs.Decides.{refuses}
 use Rattle.fields.specs.Fields as fields
-use Rattle.judge.specs.Judge.{judged, is_flow, is_reading}
 use Rattle.rules.specs.Deciding.{decided_by}
-use Rattle.cmd_turns.specs.Deed.{doing, seen}
-use Rattle.cmd_axis.proofs.Carries.{carries, refused}
+use Rattle.judge.specs.Judge.{judged, is_flow, is_reading}
+use Rattle.cmd_axis.proofs.Carries.{carries}
 use Rattle.cmd_axis.proofs.stop.Goals as goal
 
-pub returns-then-not-is_done : goal.returns-then-not-is_done
+pub returns-in_err-motor_alone : goal.returns-in_err-motor_alone
 unfolding judged
-returns-then-not-is_done c regs a n m =
-    let g = c.motor_alone-judged in
-    let x = c.args in
-    refused 3 x.c (seen a n regs) m (fields.motor_zero x.c) true true g.ensures refl c.is_done.ensures c.if-not-is_done.true-raw refl
+returns-in_err-motor_alone c regs a n m =
+    let e = c.in_err-motor_alone.field-0.0 in
+    let same : c.from_residual.result ≡ Err e = search rules in
+    rw same (refuses 3 c.args.c (seen a n regs) m (fields.motor_zero c.args.c) true true refl e c.in_err-motor_alone.ensures refl)
 
 pub returns : goal.returns
-unfolding judged doing is_flow is_reading decided_by
+unfolding doing judged is_flow is_reading decided_by
 returns c regs a n m =
-    let g = c.motor_alone-judged in
-    let x = c.args in
-    carries 3 x.c refl refl (seen a n regs) m (sym g.ensures) (sym c.is_done.ensures ∙ not-false c.is_done.result c.if-not-is_done.false-raw) refl
+    carries 3 c.args.c refl refl (seen a n regs) m (sym c.in_ok-motor_alone.ensures) refl

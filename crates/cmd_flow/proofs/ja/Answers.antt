@@ -1,27 +1,22 @@
 -- `cmd_flow::ja`.
-use mathlib.Core.Path.{refl, sym, ap, ◌∙◌}
+use borrow.Author.Rules.{rules}
+use mathlib.Core.Path.{◌≡◌, refl, sym}
 use mathlib.Core.Bool.{true}
-use borrow.Author.Tests.{not-true, not-false}
-use Rattle.status.specs.Status.{is_unknown}
+use Rattle.std.specs.Prelude.{Err}
 use Rattle.jumping.specs.Jump.{is_address}
 use Rattle.judge.specs.Judge.{judged, is_flow}
 use Rattle.cmd_turns.specs.Turn.{through, flowed}
 use Rattle.cmd_turns.specs.Deed.{doing, seen}
-use Rattle.cmd_turns.proofs.Decides.{known, refuses, passes}
+use Rattle.cmd_turns.proofs.Decides.{refuses, passes}
 use Rattle.cmd_flow.proofs.ja.Goals as goal
 
-pub returns-then-not-is_done : goal.returns-then-not-is_done
+pub returns-in_err-ja : goal.returns-in_err-ja
 unfolding judged
-returns-then-not-is_done c r a n m =
-    let g = c.ja-judged in
-    let x = c.args in
-    refuses 22 x.c g.result (sym g.ensures) (seen a n r) m refl
-    (ap is_unknown g.ensures ∙ known true true true (is_address x.c.value.v) true)
-    (sym c.is_done.ensures ∙ not-true c.is_done.result c.if-not-is_done.true-raw)
+returns-in_err-ja c r a n m =
+    let e = c.in_err-ja.field-0.0 in
+    let same : c.from_residual.result ≡ Err e = search rules in
+    rw same (refuses 22 c.args.c (seen a n r) m true true (is_address c.args.c.value.v) refl e c.in_err-ja.ensures refl)
 
 pub returns : goal.returns
 unfolding judged doing through is_flow flowed
-returns c r a n m =
-    let g = c.ja-judged in
-    let x = c.args in
-    simp c.address_of.ensures (sym (passes 22 x.c g.result (sym g.ensures) (seen a n r) m (sym c.is_done.ensures ∙ not-false c.is_done.result c.if-not-is_done.false-raw)))
+returns c r a n m = simp c.address_of.ensures (sym (passes 22 c.args.c (seen a n r) m (sym c.in_ok-ja.ensures)))

@@ -11,14 +11,14 @@ pub returns-then-bank-eq2 : goal.returns-then-bank-eq2
 returns-then-bank-eq2 c =
     let x = c.args in
     let r = registers_of x.image.now in
-    c.value.ensures ∙ ap (value_at r.values) c.bank_place.ensures
+    c.get_at.ensures ∙ ap (value_at r.values) c.bank_place.ensures
     ∙ reads-user (with_address x.address r.core) r.values x.bank x.number c.if-bank-eq2.true
 
 pub returns-then-number-eq128 : goal.returns-then-number-eq128
 returns-then-number-eq128 c =
     let x = c.args in
     let r = registers_of x.image.now in
-    c.bit.ensures ∙ ap bit c.running.ensures
+    c.bit.ensures ∙ ap bit c.get.ensures
     ∙ reads-running (with_address x.address r.core) r.values x.bank x.number c.if-bank-eq2.false c.if-number-eq128.true
 
 pub returns-then-number-eq130 : goal.returns-then-number-eq130
@@ -32,5 +32,5 @@ pub returns : goal.returns
 returns c =
     let x = c.args in
     let r = registers_of x.image.now in
-    c.value-2.ensures ∙ ap (value_at r.values) c.bank_place-2.ensures
+    c.get_at-2.ensures ∙ ap (value_at r.values) c.bank_place-2.ensures
     ∙ reads-global (with_address x.address r.core) r.values x.bank x.number c.if-bank-eq2.false c.if-number-eq128.false c.if-number-eq130.false

@@ -1,22 +1,20 @@
 -- `reg_range::most_in_range`.
 use Prim.Native.Nat.{ℕ}
-use mathlib.Core.Path.{◌≡◌}
 use mathlib.Core.Bool.{Bool}
 use lib.Dec.{leb}
-use lib.ListN.{length, get_or}
+use lib.ListN.{get_or}
 use Rattle.sheet.specs.Rows.{rows}
 use Rattle.values.specs.Values.{allowed_at, eight}
 use Rattle.reg_image.specs.Image.{registers_of}
 use Rattle.reg_range.proofs.Counts.{together}
 use Rattle.reg_range.proofs.Regroup.{most-filled}
 use Rattle.reg_range.proofs.Wider.{wider-13, wider-25}
-use borrow.Author.Rules.{rules}
 use Rattle.reg_range.proofs.most_in_range.Goals as goal
 
 pub returns : goal.returns
 returns c =
     let l = c.args.image.now in
-    let n : length l ≡ 137 = search rules in
+    let n = c.told-image in
     let f : ℕ → Bool = allowed_at rows (registers_of l).values in
     let k = together (together (together c.eight_allowed.ensures c.eight_allowed-2.ensures) c.eight_from_18.ensures) c.eight_from_10.ensures in
     simp (k.all, c.allowed_at.ensures, c.allowed_at-2.ensures)

@@ -1,5 +1,5 @@
 -- `cmd_control::defaults::default_values`: The loop's invariant: all before the place are defaults.
-use Prim.Native.Nat.{ℕ, ◌-◌}
+use Prim.Native.Nat.{ℕ}
 use mathlib.Core.Path.{◌≡◌, subst}
 use native.Mathlib.Omega.{arith}
 use Rattle.reg_image.specs.Image.{Leaves}

@@ -46,7 +46,11 @@ pub extern "C" fn dhikmarul_datagram(
 ) -> u8
     ensures { Answers bytes.now registers.old program.old cells.old reply.old result registers.new program.new cells.new reply.new }
 {
-    board_datagrams::datagram(registers, program, cells, reply, bytes)
+    match board_datagrams::datagram(registers, program, cells, reply, bytes) {
+        Ok(Some(status)) => u8::from(status),
+        Ok(None) => 0,
+        Err(misfit) => u8::from(misfit),
+    }
 }
 
 // A sample of sixteen fields.
@@ -77,8 +81,8 @@ pub extern "C" fn dhikmarul_run(
     ensures { Runs program.now budget registers.old cells.old (answered result steps.new) registers.new cells.new }
 {
     let ran = board_runs::run(registers, program, cells, budget);
-    *steps = ran.steps;
-    ran.status
+    *steps = ran.map_or(0, |made| made.steps);
+    ran.map_or_else(u8::from, |made| u8::from(made.status))
 }
 
 // The program check, and the bad point that it names.

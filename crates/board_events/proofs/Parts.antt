@@ -1,7 +1,7 @@
 -- What is put to its places, part by part, is what a tick and a sample make. Assumes nothing.
 use Prim.Native.Nat.{ℕ, ◌-◌}
 use native.Mathlib.Omega.{arith}
-use mathlib.Core.Path.{◌≡◌, refl, sym, ap, ◌∙◌}
+use mathlib.Core.Path.{◌≡◌, refl, ap, ◌∙◌}
 use mathlib.Core.Bool.{Bool, true, false, ◌&&◌}
 use mathlib.Core.List.{List, [], ◌∷◌}
 use lib.Dec.{ltb}
@@ -12,12 +12,12 @@ use Rattle.waits.specs.Waits as waits
 use Rattle.waits.specs.declared.Wait.{Wait}
 use Rattle.registers.specs.Registers.{with_wait}
 use Rattle.flags.specs.Flags.{raised, raised_flag}
-use Rattle.pins.specs.Pins.{bit_of, digital_of, analog_of, alarms_of}
+use Rattle.pins.specs.Pins.{bit_of, alarms_of}
 use Rattle.pins.specs.declared.Inputs.{Inputs}
 use Rattle.pins.specs.declared.Signals.{Signals}
 use Rattle.rules.specs.Events.{with_tick}
 use Rattle.board.specs.declared.Registers.{Registers}
-use Rattle.reg_image.specs.With.{in_core, with_count, with_eal, with_edv, with_epo, with_digital, with_analog}
+use Rattle.reg_image.specs.With.{in_core, with_count, with_eal, with_edv, with_epo}
 use Rattle.reg_image.specs.Rows.{set_digital, set_analog}
 use Rattle.reg_image.specs.Image.{registers_of}
 use Rattle.reg_image.specs.Numbers.{part_length, words-length}

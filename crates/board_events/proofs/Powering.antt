@@ -2,11 +2,11 @@
 use Prim.Native.Nat.{ℕ, ◌+◌, ◌≤◌, ◌<◌}
 use native.Mathlib.Omega.{arith}
 use mathlib.Core.Path.{◌≡◌, refl, sym, ap, subst, ◌∙◌}
-use mathlib.Core.Bool.{Bool, true}
+use mathlib.Core.Bool.{Bool}
 use mathlib.Core.List.{List}
 use borrow.Author.Tests.{lt-ltb}
 use lib.IntN.{ℤ, pos}
-use lib.ListN.{length, get_or, set}
+use lib.ListN.{length, set}
 use Rattle.words.specs.declared.Word.{Word}
 use Rattle.order.specs.Order.{same_w}
 use Rattle.sheet.specs.Rows.{rows, parameters}
@@ -18,7 +18,7 @@ use Rattle.board.specs.Registers.{unpowered, powered}
 use Rattle.board.specs.declared.Registers.{Registers}
 use Rattle.reg_image.specs.With.{in_core, with_values}
 use Rattle.reg_image.specs.Rows.{set_value_at}
-use Rattle.reg_image.specs.Image.{registers_of, shaped, Leaves}
+use Rattle.reg_image.specs.Image.{registers_of, Leaves}
 use Rattle.board_events.specs.Standing.{Is}
 use Rattle.board_events.specs.Filling.{Filling, Fills}
 

@@ -1,16 +1,18 @@
 // Power-up, sample and tick over an image of the registers, and the cells of a new board.
 //
-// Each answers document 01's number. An event that does not answer 100 leaves the image as it was; one
-// that does writes what it changes, at its places, and nothing else.
+// An event that does not fit says what of it, and leaves what it was lent as it was; any other writes what it
+// changes, at its places, and nothing else. `told` in a contract is document 01's number of either.
 #![tactic(auto)]
 
 ghost use Rattle.std.specs.Prelude.{◌≡◌};
+ghost use Rattle.status.specs.Misfit.{told};
 ghost use Rattle.rules.specs.Events.{with_tick, with_sample};
 ghost use Rattle.reg_image.specs.Image.{registers_of, Leaves};
 ghost use Rattle.board_events.specs.Standing.{Told};
 ghost use Rattle.board_events.specs.Events as spec;
 
-use reg_image::REGISTERS;
+use reg_image::{Armed, Count, REGISTERS, Timed, get, set};
+use status::Misfit;
 use waits::Wait;
 
 mod carried;
@@ -19,15 +21,15 @@ mod put;
 
 pub use power::power_up;
 
-// The default cells; 20 for a store of another length, which is left as it is.
-pub fn new_cells(cells: &mut [u8]) -> u8
-    ensures { spec.cells_left result cells.new ≡ spec.new_cells cells.old }
+// The default cells, for a store of their length.
+pub fn new_cells(cells: &mut [u8]) -> Result<(), Misfit>
+    ensures { spec.cells_left (told result) cells.new ≡ spec.new_cells cells.old }
 {
     if !store::is_parameter_store(cells) {
-        return 20;
+        return Err(Misfit::Length);
     }
     resetting::reset_cells(cells);
-    100
+    Ok(())
 }
 
 // The count of an armed wait after 10 ms more.
@@ -35,38 +37,36 @@ fn put_tick(image: &mut [u32; REGISTERS])
     ensures { Leaves with_tick image.old image.new }
 {
     let wait = Wait {
-        armed: reg_image::armed(image),
-        count: reg_image::count(image),
-        timed: reg_image::timed(image),
+        armed: get::<Armed>(image),
+        count: get::<Count>(image),
+        timed: get::<Timed>(image),
     };
-    let later = wait.ticked();
-    reg_image::set_count(image, later.count);
+    set::<Count>(image, wait.ticked().count);
 }
 
 // 10 ms more.
-pub fn tick(image: &mut [u32; REGISTERS]) -> u8
-    ensures { Told (spec.tick_status image.old) (with_tick (registers_of image.old)) image.old image.new result }
+pub fn tick(image: &mut [u32; REGISTERS]) -> Result<(), Misfit>
+    ensures { Told (spec.tick_status image.old) (with_tick (registers_of image.old)) image.old image.new (told result) }
 {
     if !reg_range::in_range(image) {
-        return 23;
+        return Err(Misfit::Registers);
     }
     put_tick(image);
-    100
+    Ok(())
 }
 
 // A sample of sixteen fields.
-pub fn sample(image: &mut [u32; REGISTERS], fields: &[i32; 16]) -> u8
-    ensures { Told (spec.sample_status fields.now image.old) (with_sample (spec.sample_of fields.now) (registers_of image.old)) image.old image.new result }
+pub fn sample(image: &mut [u32; REGISTERS], fields: &[i32; 16]) -> Result<(), Misfit>
+    ensures { Told (spec.sample_status fields.now image.old) (with_sample (spec.sample_of fields.now) (registers_of image.old)) image.old image.new (told result) }
 {
     if !reg_range::in_range(image) {
-        return 23;
+        return Err(Misfit::Registers);
     }
-    let s = carried::sample_of(fields);
-    if !s.in_range() {
-        return 21;
+    if !carried::sample_of(fields).in_range() {
+        return Err(Misfit::Sample);
     }
     put::alarms(image, fields);
     put::inputs(image, fields);
     put::readings(image, fields);
-    100
+    Ok(())
 }

@@ -1,5 +1,5 @@
 // What a sample sets, put to its places.
-ghost use Rattle.std.specs.Prelude.{◌<◌, ◌≡◌, pos, length, get_or};
+ghost use Rattle.std.specs.Prelude.{◌<◌, ◌≡◌, pos, get_or};
 ghost use Rattle.words.specs.Word.{word};
 ghost use Rattle.flags.specs.Flags.{raised_flag};
 ghost use Rattle.reg_image.specs.Rows as rows;
@@ -8,24 +8,14 @@ ghost use Rattle.board_events.specs.Events as spec;
 ghost use Rattle.board_events.specs.Parts as parts;
 
 use crate::carried::signals_of;
-use reg_image::REGISTERS;
+use reg_image::{Analog, Digital, Eal, Edv, Epo, REGISTERS, Value, get, set, set_at};
 use words::Word;
-
-fn sized(_numbers: &[u32]) {}
-
-// That an image has its length is in its type: lent as a slice, the prover sees it.
-fn measured(image: &[u32; REGISTERS])
-    ensures { length image.now ≡ 137 }
-{
-    sized(image);
-}
 
 fn field(fields: &[i32; 16], at: usize) -> Word
     requires { at < 16 }
     ensures { result ≡ word (get_or fields.now at (pos 0)) }
 {
-    let v = fields[at];
-    Word { v: v }
+    Word { v: fields[at] }
 }
 
 // A flag after its alarm.
@@ -41,24 +31,23 @@ pub(crate) fn alarms(image: &mut [u32; REGISTERS], fields: &[i32; 16])
 {
     let signals = signals_of(fields);
     let alarms = signals.alarms();
-    let eal = raised_flag(alarms.eal, reg_image::eal(image));
-    let edv = raised_flag(alarms.edv, reg_image::edv(image));
-    let epo = raised_flag(alarms.epo, reg_image::epo(image));
-    reg_image::set_eal(image, eal);
-    reg_image::set_edv(image, edv);
-    reg_image::set_epo(image, epo);
+    let eal = raised_flag(alarms.eal, get::<Eal>(image));
+    let edv = raised_flag(alarms.edv, get::<Edv>(image));
+    let epo = raised_flag(alarms.epo, get::<Epo>(image));
+    set::<Eal>(image, eal);
+    set::<Edv>(image, edv);
+    set::<Epo>(image, epo);
 }
 
 // The digital and the analog inputs.
 pub(crate) fn inputs(image: &mut [u32; REGISTERS], fields: &[i32; 16])
     ensures { Leaves (parts.with_inputs (spec.inputs_of fields.now)) image.old image.new }
 {
-    measured(image);
-    reg_image::set_digital(image, 0, pins::bit_of(field(fields, 8)) as u32);
-    reg_image::set_digital(image, 1, pins::bit_of(field(fields, 9)) as u32);
-    reg_image::set_analog(image, 0, field(fields, 10));
-    reg_image::set_analog(image, 1, field(fields, 11));
-    reg_image::set_analog(image, 2, field(fields, 12));
+    set_at::<Digital>(image, 0, u32::from(pins::bit_of(field(fields, 8))));
+    set_at::<Digital>(image, 1, u32::from(pins::bit_of(field(fields, 9))));
+    set_at::<Analog>(image, 0, field(fields, 10));
+    set_at::<Analog>(image, 1, field(fields, 11));
+    set_at::<Analog>(image, 2, field(fields, 12));
 }
 
 // A field as the working value at a place.
@@ -66,7 +55,7 @@ fn reading(image: &mut [u32; REGISTERS], place: usize, fields: &[i32; 16], at: u
     requires { at < 16 }
     ensures { Leaves (rows.set_value_at place (get_or fields.now at (pos 0))) image.old image.new }
 {
-    reg_image::set_value(image, place, field(fields, at));
+    set_at::<Value>(image, place, field(fields, at));
 }
 
 // Parameters 51, 52, 55, 211, 212, 213, 220 and 221.

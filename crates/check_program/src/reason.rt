@@ -1,91 +1,40 @@
-// Why a record is bad, and why an image cannot be read, in words.
-use crate::print::text;
+// Why a record is bad, in words.
+use status::Status;
+use wire::Command;
 
-// A wrong motor is judged before a wrong value.
-fn of_motor(rt: &impl Print, motor: u8) {
-    if motor == 0 {
-        text(rt, b"wrong value");
-    } else {
-        text(rt, b"wrong motor");
+// Which of motor, bank, value and target is wrong, by what the command takes. A wrong motor and a wrong bank
+// are judged before a wrong value.
+fn wrong_field(command: Command) -> &'static str {
+    match (command.number, command.kind, command.motor) {
+        (15, _, _) => "wrong bank",
+        (19, _, _) => "division by 0",
+        (21..=23, _, _) => "wrong target",
+        // WAIT TICKS has no motor.
+        (27, 0, _) => "wrong value",
+        (1..=8 | 27 | 34, _, 0) => "wrong value",
+        (1..=8 | 27 | 34, _, _) => "wrong motor",
+        (9 | 10 | 35, _, 0 | 2) => "wrong value",
+        (11 | 12 | 14, _, 2) => "wrong value",
+        (9..=12 | 14 | 35, _, _) => "wrong bank",
+        _ => "wrong motor, bank or value",
     }
 }
 
-// A wrong bank is judged before a wrong value.
-fn of_bank(rt: &impl Print, is_good: bool) {
-    if is_good {
-        text(rt, b"wrong value");
-    } else {
-        text(rt, b"wrong bank");
+fn unavailable(command: Command) -> &'static str {
+    match command.number {
+        23 => "the ninth call: the call stack has eight entries",
+        24 => "a return with no call",
+        _ => "not available now",
     }
 }
 
-// WAIT TICKS has no motor.
-fn of_wait(rt: &impl Print, kind: u8, motor: u8) {
-    if kind == 0 {
-        text(rt, b"wrong value");
-    } else {
-        of_motor(rt, motor);
-    }
-}
-
-// Which of motor, bank, value and target is wrong, by what the command takes.
-fn of_field(rt: &impl Print, command: u8, kind: u8, motor: u8) {
-    match command {
-        1..=8 | 34 => of_motor(rt, motor),
-        9 | 10 | 35 => of_bank(rt, motor == 0 || motor == 2),
-        11 | 12 | 14 => of_bank(rt, motor == 2),
-        15 => text(rt, b"wrong bank"),
-        19 => text(rt, b"division by 0"),
-        21..=23 => text(rt, b"wrong target"),
-        27 => of_wait(rt, kind, motor),
-        _ => text(rt, b"wrong motor, bank or value"),
-    }
-}
-
-fn of_call(rt: &impl Print, command: u8) {
-    match command {
-        23 => text(rt, b"the ninth call: the call stack has eight entries"),
-        24 => text(rt, b"a return with no call"),
-        _ => text(rt, b"not available now"),
-    }
-}
-
-// Why a record has a status that the check refuses.
-pub(crate) fn tell(rt: &impl Print, status: u8, record: &[u8; 7]) {
-    let command = record[0];
+// Why a command has a status that the check refuses.
+pub(crate) fn reason(status: Status, command: Command) -> &'static str {
     match status {
-        2 => text(rt, b"unknown command, or one that no program has"),
-        3 => text(rt, b"type wrong, or access not allowed"),
-        4 => of_field(rt, command, record[1], record[2]),
-        6 => of_call(rt, command),
-        _ => text(rt, b"refused"),
+        Status::Unknown => "unknown command, or one that no program has",
+        Status::Kind => "type wrong, or access not allowed",
+        Status::Value => wrong_field(command),
+        Status::Unavailable => unavailable(command),
+        _ => "refused",
     }
-}
-
-// The numbers of Linux for why a file cannot be read.
-const NO_ENTRY: i32 = 2;
-
-const IO: i32 = 5;
-
-const ACCESS: i32 = 13;
-
-const NOT_DIRECTORY: i32 = 20;
-
-const IS_DIRECTORY: i32 = 21;
-
-pub(crate) const NAME_TOO_LONG: i32 = 36;
-
-// Why a file cannot be read, by the number that the system gave, if it gave one.
-pub(crate) fn unread(rt: &impl Print, error: Option<i32>) {
-    text(rt, b"cannot be read: ");
-    match error {
-        Some(NO_ENTRY) => text(rt, b"No such file or directory"),
-        Some(ACCESS) => text(rt, b"Permission denied"),
-        Some(IS_DIRECTORY) => text(rt, b"Is a directory"),
-        Some(NOT_DIRECTORY) => text(rt, b"Not a directory"),
-        Some(NAME_TOO_LONG) => text(rt, b"File name too long"),
-        Some(IO) => text(rt, b"Input/output error"),
-        _ => text(rt, b"the system refused it"),
-    }
-    text(rt, b"\n");
 }

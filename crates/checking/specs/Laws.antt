@@ -3,9 +3,7 @@ use Rattle.std.specs.Prelude.{ℕ, ◌≡◌, List, length}
 use Rattle.store.specs.Store.{program_length}
 use Rattle.points.specs.Reach.{Safe}
 use Rattle.leading.specs.Leading.{way_at}
-use Rattle.checking.specs.Check.{Checked}
-use Rattle.checking.specs.declared.Verdict.{Verdict}
-use Rattle.checking.specs.declared.Verdict.TheVariants.{Passed}
+use Rattle.checking.specs.Check.{Verdict, Passed, Checked}
 use Rattle.checking.specs.declared.Answer.{Answer}
 
 pub record Laws : Type 0 where

@@ -7,63 +7,61 @@ ghost use Rattle.checking.specs.Laws.{Laws};
 
 use points::Point;
 use status::Status;
-use walking::{Found, lowest};
+use walking::lowest;
 
-#[derive(Clone, Copy)]
-pub enum Verdict {
+// Why a program does not pass.
+#[derive(Clone, Copy, PartialEq, Eq)]
+pub enum Fault {
     // The program store has another length than 7,168.
     Length,
-    Passed,
     // The lowest bad point that is reached, and its status.
-    Refused(Point, Status),
+    Bad(Point, Status),
 }
 
 // The numbers of a verdict.
-#[derive(Clone, Copy)]
+#[derive(Clone, Copy, PartialEq, Eq)]
 pub struct Answer {
     pub number: u8,
     pub point: Point,
 }
 
-impl Verdict {
-    // For a caller that hands numbers on.
-    pub fn answer(self) -> Answer
-        ensures { result ≡ answer_of self }
-    {
-        match self {
-            Verdict::Length => Answer {
-                number: 20,
-                point: Point::first(),
-            },
-            Verdict::Passed => Answer {
+// For a caller that hands numbers on.
+impl From<Result<(), Fault>> for Answer {
+    ghost from_gives = { λ verdict answer. answer ≡ answer_of verdict };
+
+    fn from(verdict: Result<(), Fault>) -> Answer {
+        match verdict {
+            Ok(()) => Answer {
                 number: 100,
                 point: Point::first(),
             },
-            Verdict::Refused(p, status) => Answer {
-                number: u8::from(status),
-                point: p,
+            Err(Fault::Length) => Answer {
+                number: 20,
+                point: Point::first(),
+            },
+            Err(Fault::Bad(point, status)) => Answer {
+                number: status.into(),
+                point,
             },
         }
     }
 }
 
 // Checks a program along every path.
-pub fn check(program: &[u8]) -> Verdict
+pub fn check(program: &[u8]) -> Result<(), Fault>
     ensures { Right program.now result }
 {
     if !store::is_program_store(program) {
-        return Verdict::Length;
+        return Err(Fault::Length);
     }
-    let found = lowest(program);
-    let status = found.status;
-    if found.number < Found::NONE {
-        Verdict::Refused(Point::numbered(found.number), status)
-    } else {
-        Verdict::Passed
+    match lowest(program) {
+        Some(found) => Err(Fault::Bad(found.number.into(), found.status)),
+        None => Ok(()),
     }
 }
 
 // The laws of the check, held to be proved: the function does nothing.
+#[tactic(auto, using(crate::proofs::Unique::laws))]
 pub fn laws()
     ensures { Laws }
 {}

@@ -1,5 +1,5 @@
 -- A list of nine is its nine elements. Assumes nothing.
-use Rattle.std.proofs.Common.{◌≡◌, ℕ, List, [], ◌∷◌, length, get_or, take, set, refl, arith}
+use Rattle.std.proofs.Common.{◌≡◌, ℕ, List, [], ◌∷◌, length, set, refl, arith}
 
 -- what holds of every nine elements holds of a list of nine
 pub nine : (P : List ℕ → Type 0) → ((a b c d e f g h i : ℕ) → P (a ∷ b ∷ c ∷ d ∷ e ∷ f ∷ g ∷ h ∷ i ∷ [])) → (l : List ℕ) → length l ≡ 9 → P l
@@ -21,12 +21,4 @@ pub stored : (a b c d e f g h i : ℕ) (l : List ℕ) → length l ≡ 9
 stored a b c d e f g h i =
     nine
     (λ (l : List ℕ). set (set (set (set (set (set (set (set (set l 4 e) 5 f) 6 g) 7 h) 1 b) 2 c) 3 d) 0 a) 8 i ≡ a ∷ b ∷ c ∷ d ∷ e ∷ f ∷ g ∷ h ∷ i ∷ [])
-    (λ _ _ _ _ _ _ _ _ _. refl)
-
--- the first eight, one by one
-pub eight-of : (l : List ℕ) → length l ≡ 9
-    → get_or l 0 0 ∷ get_or l 1 0 ∷ get_or l 2 0 ∷ get_or l 3 0 ∷ get_or l 4 0 ∷ get_or l 5 0 ∷ get_or l 6 0 ∷ get_or l 7 0 ∷ [] ≡ take 8 l
-eight-of =
-    nine
-    (λ (l : List ℕ). get_or l 0 0 ∷ get_or l 1 0 ∷ get_or l 2 0 ∷ get_or l 3 0 ∷ get_or l 4 0 ∷ get_or l 5 0 ∷ get_or l 6 0 ∷ get_or l 7 0 ∷ [] ≡ take 8 l)
     (λ _ _ _ _ _ _ _ _ _. refl)

@@ -1,9 +1,12 @@
 -- Sums that wrap at 8 bits. Assumes nothing.
-use Rattle.std.proofs.Common.{◌≡◌, ℕ, ◌+◌, ◌%◌, [], ◌∷◌, arith}
-use native.Mathlib.Nat.{mod-add-mod, add-mod-mod}
-use Rattle.checksum.specs.Checksum.{checksum}
+use Rattle.std.proofs.Common.{◌≡◌, ℕ, ◌+◌, ◌%◌, ◌<◌, List, [], ◌∷◌, arith}
+use Rattle.std.specs.List.{fold}
+use Rattle.checksum.specs.Checksum.{total, checksum}
 
--- eight numbers added in pairs, each sum wrapped, are their checksum
-pub tree : (a b c d e f g h : ℕ)
-    → (((a + b) % 256 + (c + d) % 256) % 256 + ((e + f) % 256 + (g + h) % 256) % 256) % 256 ≡ checksum (a ∷ b ∷ c ∷ d ∷ e ∷ f ∷ g ∷ h ∷ [])
-tree a b c d e f g h = simp (mod-add-mod, add-mod-mod) (omega arith)
+-- numbers added one by one onto a sum, which is wrapped each time
+onto : (s : ℕ) (xs : List ℕ) → s < 256 → fold (λ (n x : ℕ). (n + x) % 256) s xs ≡ (s + total xs) % 256
+onto s [] h = omega arith
+onto s (x ∷ xs) h = let e = onto ((s + x) % 256) xs (omega arith) in omega arith
+
+pub one-by-one : (xs : List ℕ) (r : ℕ) → r ≡ fold (λ (n x : ℕ). (n + x) % 256) 0 xs → r ≡ checksum xs
+one-by-one xs r h = let e = onto 0 xs (omega arith) in omega arith

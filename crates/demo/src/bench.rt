@@ -1,193 +1,164 @@
 // The board on the bench: the display's commands to it, time passing over it, and its ignition.
+ghost use Rattle.std.specs.Prelude.{◌≤◌, length};
+
 use crate::bracket::Outside;
-use crate::print::{labelled, labelled_word, spelled, text};
+use crate::mnemonic::Mnemonic;
+use crate::names;
+use crate::print::say;
 use crate::tilt::command;
-use crate::trace::Seen;
-use crate::{bracket, names, trace};
+use crate::trace::{Moment, Seen};
 use display::Unread;
 use reg_image::REGISTERS;
-use std::num::wrapping_add_u64;
+use std::fmt;
+use streams::Spelled;
 use wire::Command;
 
-fn received(rt: &impl Print, reply: &[u8; 9]) {
-    text(rt, b", reply ");
-    text(rt, &spelled(reply));
-    match display::read_reply(reply) {
-        Ok(r) => {
-            labelled(rt, b": status ", r.status as u64);
-            let value = r.value;
-            labelled_word(rt, b", value ", value.v);
-        }
-        Err(Unread::Length) => text(rt, b": of another length"),
-        Err(Unread::Checksum) => text(rt, b": damaged"),
-    }
-}
-
-// A command as the display sends it to address 1, told only where it is to be. Answers the status.
-fn exchange(
-    rt: &impl Print,
-    image: &mut [u32; REGISTERS],
-    program: &mut [u8; 7168],
-    cells: &mut [u8; 364],
+// A command as the display sends it to address 1, and what comes back.
+#[derive(Clone, Copy)]
+struct Exchange {
     sent: Command,
-    is_told: bool,
-) -> u8 {
-    let mut frame = [0u8; 9];
-    let mut reply = [0u8; 9];
-    let _ = display::build_command(&mut frame, 1, sent);
-    let status = board_datagrams::datagram(image, program, cells, &mut reply, &frame);
-    if is_told {
-        text(rt, b"  ");
-        crate::mnemonic::write(rt, sent);
-        text(rt, b": ");
-        text(rt, &spelled(&frame));
-        received(rt, &reply);
-        text(rt, b"\n");
-    }
-    status
+    frame: [u8; 9],
+    reply: [u8; 9],
+    status: u8,
 }
 
-// A command of so many numbers, told with its reply.
-pub(crate) fn send(
-    rt: &impl Print,
-    image: &mut [u32; REGISTERS],
-    program: &mut [u8; 7168],
-    cells: &mut [u8; 364],
-    number: u8,
-    kind: u8,
-    motor: u8,
-    value: i32,
-) {
-    exchange(
-        rt,
-        image,
-        program,
-        cells,
-        command(number, kind, motor, value),
-        true,
-    );
-}
-
-// The records from a place to an end, sent in download mode. Answers how many were put in program
-// memory.
-fn store_all(
-    rt: &impl Print,
-    image: &mut [u32; REGISTERS],
-    program: &mut [u8; 7168],
-    cells: &mut [u8; 364],
-    listed: &[u8; 7168],
-    from: usize,
-    end: usize,
-) -> u64 {
-    let mut stored = 0u64;
-    for at in from..end {
-        let record = store::record_at(listed, at);
-        let status = exchange(rt, image, program, cells, record, false);
-        if status == 101 {
-            stored = wrapping_add_u64(stored, 1);
+impl fmt::Display for Exchange {
+    fn fmt<W: fmt::Write>(&self, f: &mut fmt::Formatter<W>) -> fmt::Result {
+        let frame = Spelled(&self.frame);
+        let reply = Spelled(&self.reply);
+        write!(f, "  {}: {frame}, reply {reply}: ", Mnemonic(self.sent))?;
+        match display::read_reply(&self.reply) {
+            Ok(r) => write!(f, "status {}, value {}", r.status, r.value.v),
+            Err(Unread::Length) => write!(f, "of another length"),
+            Err(Unread::Checksum) => write!(f, "damaged"),
         }
     }
-    stored
 }
 
-// The listed program, through download mode: the first and the last record are told.
-pub(crate) fn load(
-    rt: &impl Print,
-    image: &mut [u32; REGISTERS],
-    program: &mut [u8; 7168],
-    cells: &mut [u8; 364],
-    listed: &[u8; 7168],
-    count: usize,
-) {
-    if count == 0 {
-        return;
-    }
-    let last = count - 1;
-    send(rt, image, program, cells, names::START_DOWNLOAD, 0, 0, 0);
-    exchange(rt, image, program, cells, store::record_at(listed, 0), true);
-    let stored = store_all(rt, image, program, cells, listed, 1, last);
-    labelled(rt, b"  .. and so on: ", stored);
-    text(
-        rt,
-        b" records more with status 101, put in program memory\n",
-    );
-    exchange(
-        rt,
-        image,
-        program,
-        cells,
-        store::record_at(listed, last),
-        true,
-    );
-    send(rt, image, program, cells, names::END_DOWNLOAD, 0, 0, 0);
+// A board with its stores, and what is around it.
+#[derive(Clone, Copy)]
+pub(crate) struct Bench {
+    image: [u32; REGISTERS],
+    pub(crate) program: [u8; 7168],
+    cells: [u8; 364],
+    pub(crate) outside: Outside,
+}
+
+// How many items are not as they were.
+fn changed<T: PartialEq>(before: &[T], after: &[T]) -> usize
+    ensures { result ≤ length before.now }
+{
+    before.iter().zip(after).filter(|(a, b)| a != b).count()
 }
 
 // Whether a line is due: something changed, the ignition was just turned on, or the bracket is on its
 // way for another ten ticks.
 fn is_due(time: u64, before: Seen, after: Seen, has_moved: bool) -> bool {
-    if time == 0 {
-        return true;
-    }
-    if !trace::is_same(before, after) {
-        return true;
-    }
-    if time % 10 != 0 {
-        return false;
-    }
-    has_moved
+    time == 0 || before != after || (has_moved && time % 10 == 0)
 }
 
-// 10 ms: the bracket moves, the board measures and runs, and the tick comes.
-fn turn(
-    rt: &impl Print,
-    image: &mut [u32; REGISTERS],
-    program: &[u8; 7168],
-    cells: &mut [u8; 364],
-    outside: Outside,
-) -> Outside {
-    let before = trace::look(image);
-    let mut after = outside;
-    after.position = bracket::moved(image, outside.position, outside.lowest);
-    let fields = bracket::sample(image, after);
-    board_events::sample(image, &fields);
-    board_runs::run(image, program, cells, 1000);
-    let has_moved = after.position != outside.position;
-    if is_due(outside.time, before, trace::look(image), has_moved) {
-        trace::line(rt, outside.time, before, image, program);
+impl Bench {
+    // A new board, without power yet.
+    pub(crate) fn new() -> Bench {
+        let mut cells = [0u8; 364];
+        board_events::new_cells(&mut cells);
+        Bench {
+            image: [0; REGISTERS],
+            program: [0; 7168],
+            cells,
+            outside: Outside::default(),
+        }
     }
-    board_events::tick(image);
-    after.time = wrapping_add_u64(outside.time, 1);
-    after
-}
 
-// So many ticks with the buttons held as they are.
-pub(crate) fn pass(
-    rt: &impl Print,
-    image: &mut [u32; REGISTERS],
-    program: &[u8; 7168],
-    cells: &mut [u8; 364],
-    outside: Outside,
-    ticks: usize,
-) -> Outside {
-    let mut after = outside;
-    for _ in 0..ticks {
-        after = turn(rt, image, program, cells, after);
-    }
-    after
-}
-
-// Ignition off and on: the working values go, the cells stay.
-pub(crate) fn ignite(rt: &impl Print, image: &mut [u32; REGISTERS], cells: &[u8; 364]) {
-    board_events::power_up(image, cells);
-    if reg_image::running(image) {
-        text(
-            rt,
-            b"Ignition on: global 77 is 1, so the program runs by itself.\n",
+    fn exchange(&mut self, sent: Command) -> Exchange {
+        let mut frame = [0u8; 9];
+        let mut reply = [0u8; 9];
+        display::build_command(&mut frame, 1, sent);
+        let status = board_datagrams::datagram(
+            &mut self.image,
+            &mut self.program,
+            &mut self.cells,
+            &mut reply,
+            &frame,
         );
-    } else {
-        text(
+        Exchange {
+            sent,
+            frame,
+            reply,
+            status,
+        }
+    }
+
+    // A command, told with its reply.
+    pub(crate) fn send(&mut self, rt: &impl Print, sent: Command) {
+        say(rt, self.exchange(sent));
+    }
+
+    // The first records of a listed program, through download mode: the first and the last one are told.
+    pub(crate) fn load(&mut self, rt: &impl Print, listed: &[u8; 7168], count: usize) {
+        let last = count.saturating_sub(1);
+        self.send(rt, command(names::START_DOWNLOAD, 0, 0, 0));
+        self.send(rt, store::record_at(listed, 0));
+        let stored = (1..last)
+            .filter(|&at| self.exchange(store::record_at(listed, at)).status == 101)
+            .count();
+        say(
             rt,
-            b"Ignition on: global 77 is 0, so the program does not run.\n",
+            format_args!(
+                "  .. and so on: {stored} records more with status 101, put in program memory"
+            ),
         );
+        self.send(rt, store::record_at(listed, last));
+        self.send(rt, command(names::END_DOWNLOAD, 0, 0, 0));
+    }
+
+    // How many of the registers and of the bytes of the cells are not as they were.
+    pub(crate) fn changes_since(&self, before: &Bench) -> usize {
+        changed(&before.image, &self.image) + changed(&before.cells, &self.cells)
+    }
+
+    // 10 ms: the bracket moves, the board measures and runs, and the tick comes.
+    fn turn(&mut self, rt: &impl Print) {
+        let before = Seen::of(&self.image);
+        let position = self.outside.moved(&self.image);
+        let has_moved = position != self.outside.position;
+        self.outside.position = position;
+        let fields = self.outside.sample(&self.image);
+        board_events::sample(&mut self.image, &fields);
+        board_runs::run(&mut self.image, &self.program, &mut self.cells, 1000);
+        let moment = Moment {
+            time: self.outside.time,
+            before,
+            image: &self.image,
+            program: &self.program,
+        };
+        if is_due(moment.time, before, Seen::of(&self.image), has_moved) {
+            say(rt, moment);
+        }
+        board_events::tick(&mut self.image);
+        self.outside.time = self.outside.time.wrapping_add(1);
+    }
+
+    // So many ticks with the buttons held as they are.
+    pub(crate) fn pass(&mut self, rt: &impl Print, ticks: usize) {
+        for _ in 0..ticks {
+            self.turn(rt);
+        }
+    }
+
+    // Ignition off and on: the working values go, the cells stay.
+    pub(crate) fn ignite(&mut self, rt: &impl Print) {
+        board_events::power_up(&mut self.image, &self.cells);
+        if reg_image::running(&self.image) {
+            say(
+                rt,
+                "Ignition on: global 77 is 1, so the program runs by itself.",
+            );
+        } else {
+            say(
+                rt,
+                "Ignition on: global 77 is 0, so the program does not run.",
+            );
+        }
     }
 }

@@ -1,193 +1,129 @@
 // What changed on the board in 10 ms, and how it then stands, in one line.
 use crate::bracket::parameter;
+use crate::mnemonic::Mnemonic;
 use crate::names;
-use crate::print::{labelled, labelled_word, number, text};
 use reg_image::REGISTERS;
 use registers::Order;
-
-const STOPPED: u32 = 0;
-
-const VELOCITY: u32 = 1;
-
-const POSITION: u32 = 2;
+use std::fmt;
 
 // What a line tells of where it changes.
-#[derive(Clone, Copy)]
+#[derive(Clone, Copy, PartialEq, Eq)]
 pub(crate) struct Seen {
-    up: u32,
-    down: u32,
-    right: u32,
-    reached: u32,
-    order: u32,
-    output_0: u32,
-    output_1: u32,
-    eto: u32,
+    up: bool,
+    down: bool,
+    right: bool,
+    reached: bool,
+    eto: bool,
+    motor: &'static str,
+    output_0: bool,
+    output_1: bool,
 }
 
-// The bits of an axis parameter, by its number.
-fn bits(image: &[u32; REGISTERS], number: u8) -> u32 {
-    words::bits_of(parameter(image, number))
-}
-
-// A number for each order.
-fn order_number(o: Order) -> u32 {
-    match o {
-        Order::Stopped => STOPPED,
-        Order::Velocity => VELOCITY,
-        Order::Position => POSITION,
-    }
-}
-
-pub(crate) fn look(image: &[u32; REGISTERS]) -> Seen {
-    Seen {
-        up: reg_image::digital(image, 0),
-        down: reg_image::digital(image, 1),
-        right: bits(image, names::RIGHT_SWITCH),
-        reached: bits(image, names::REACHED),
-        order: order_number(reg_image::motion_order(image)),
-        output_0: reg_image::output(image, 0),
-        output_1: reg_image::output(image, 1),
-        eto: reg_image::eto(image),
+impl Seen {
+    pub(crate) fn of(image: &[u32; REGISTERS]) -> Seen {
+        Seen {
+            up: reg_image::digital(image, 0) != 0,
+            down: reg_image::digital(image, 1) != 0,
+            right: parameter(image, names::RIGHT_SWITCH) != 0,
+            reached: parameter(image, names::REACHED) != 0,
+            eto: reg_image::eto(image) != 0,
+            motor: match reg_image::motion_order(image) {
+                Order::Stopped => "the motor stops; ",
+                Order::Velocity => "the motor turns; ",
+                Order::Position => "the motor goes to a position; ",
+            },
+            output_0: reg_image::output(image, 0) != 0,
+            output_1: reg_image::output(image, 1) != 0,
+        }
     }
 }
 
-fn is_same_outside(a: Seen, b: Seen) -> bool {
-    if a.up != b.up {
-        return false;
-    }
-    if a.down != b.down {
-        return false;
-    }
-    if a.right != b.right {
-        return false;
-    }
-    a.reached == b.reached
-}
-
-pub(crate) fn is_same(a: Seen, b: Seen) -> bool {
-    if a.order != b.order {
-        return false;
-    }
-    if a.output_0 != b.output_0 {
-        return false;
-    }
-    if a.output_1 != b.output_1 {
-        return false;
-    }
-    if a.eto != b.eto {
-        return false;
-    }
-    is_same_outside(a, b)
-}
-
-// The words for a number that was 0 or 1 and is the other now.
-fn turned(rt: &impl Print, was: u32, is: u32, on: &[u8], off: &[u8]) {
-    if was == is {
-        return;
-    }
-    if is == 0 {
-        text(rt, off);
-    } else {
-        text(rt, on);
+// The words for what was on or off and is the other.
+fn turned(was: bool, is: bool, on: &'static str, off: &'static str) -> &'static str {
+    match (was, is) {
+        (false, true) => on,
+        (true, false) => off,
+        _ => "",
     }
 }
 
-fn ordered(rt: &impl Print, was: u32, is: u32) {
-    if was == is {
-        return;
-    }
-    match is {
-        VELOCITY => text(rt, b"the motor turns; "),
-        POSITION => text(rt, b"the motor goes to a position; "),
-        _ => text(rt, b"the motor stops; "),
-    }
-}
+// What happened between two looks at the board.
+#[derive(Clone, Copy)]
+struct Happened(Seen, Seen);
 
-fn happened(rt: &impl Print, a: Seen, b: Seen) {
-    turned(rt, a.up, b.up, b"tilt up pressed; ", b"tilt up released; ");
-    turned(
-        rt,
-        a.down,
-        b.down,
-        b"tilt down pressed; ",
-        b"tilt down released; ",
-    );
-    turned(
-        rt,
-        a.right,
-        b.right,
-        b"right limit switch on; ",
-        b"right limit switch off; ",
-    );
-    turned(rt, a.reached, b.reached, b"position reached; ", b"");
-    turned(
-        rt,
-        a.eto,
-        b.eto,
-        b"ETO set: the wait ran out; ",
-        b"ETO cleared; ",
-    );
-    ordered(rt, a.order, b.order);
-    turned(
-        rt,
-        a.output_0,
-        b.output_0,
-        b"output 0 on; ",
-        b"output 0 off; ",
-    );
-    turned(
-        rt,
-        a.output_1,
-        b.output_1,
-        b"output 1 on; ",
-        b"output 1 off; ",
-    );
-}
-
-fn order(rt: &impl Print, image: &[u32; REGISTERS]) {
-    let given = reg_image::motion_order(image);
-    let velocity = reg_image::velocity(image);
-    let target = parameter(image, names::TARGET_POSITION);
-    match given {
-        Order::Velocity => labelled_word(rt, b", order velocity ", velocity.v),
-        Order::Position => labelled_word(rt, b", order position ", target.v),
-        Order::Stopped => text(rt, b", order stopped"),
+impl fmt::Display for Happened {
+    fn fmt<W: fmt::Write>(&self, f: &mut fmt::Formatter<W>) -> fmt::Result {
+        let Happened(a, b) = self;
+        let right = ("right limit switch on; ", "right limit switch off; ");
+        let eto = ("ETO set: the wait ran out; ", "ETO cleared; ");
+        f.write_str(turned(a.up, b.up, "tilt up pressed; ", "tilt up released; "))?;
+        f.write_str(turned(
+            a.down,
+            b.down,
+            "tilt down pressed; ",
+            "tilt down released; ",
+        ))?;
+        f.write_str(turned(a.right, b.right, right.0, right.1))?;
+        f.write_str(turned(a.reached, b.reached, "position reached; ", ""))?;
+        f.write_str(turned(a.eto, b.eto, eto.0, eto.1))?;
+        if a.motor != b.motor {
+            f.write_str(b.motor)?;
+        }
+        f.write_str(turned(a.output_0, b.output_0, "output 0 on; ", "output 0 off; "))?;
+        f.write_str(turned(a.output_1, b.output_1, "output 1 on; ", "output 1 off; "))
     }
 }
 
-fn outputs(rt: &impl Print, image: &[u32; REGISTERS]) {
-    labelled(rt, b", outputs ", reg_image::output(image, 0) as u64);
-    number(rt, reg_image::output(image, 1) as u64);
-    number(rt, reg_image::output(image, 2) as u64);
-    number(rt, reg_image::output(image, 3) as u64);
-}
+// The motor's order, with the velocity or the target.
+#[derive(Clone, Copy)]
+struct Ordered<'a>(&'a [u32; REGISTERS]);
 
-// Where the program stands, and what of a wait is left.
-fn place(rt: &impl Print, image: &[u32; REGISTERS], program: &[u8; 7168]) {
-    let address = reg_image::address(image);
-    labelled(rt, b"; at ", address as u64);
-    text(rt, b" ");
-    crate::mnemonic::write(rt, store::record_at(program, address as usize));
-    if reg_image::armed(image) {
-        labelled(rt, b", ticks left ", reg_image::count(image) as u64);
+impl fmt::Display for Ordered<'_> {
+    fn fmt<W: fmt::Write>(&self, f: &mut fmt::Formatter<W>) -> fmt::Result {
+        match reg_image::motion_order(self.0) {
+            Order::Velocity => write!(f, "velocity {}", reg_image::velocity(self.0).v),
+            Order::Position => write!(f, "position {}", parameter(self.0, names::TARGET_POSITION)),
+            Order::Stopped => write!(f, "stopped"),
+        }
     }
-    labelled(rt, b", depth ", reg_image::depth(image) as u64);
 }
 
-pub(crate) fn line(
-    rt: &impl Print,
-    time: u64,
-    before: Seen,
-    image: &[u32; REGISTERS],
-    program: &[u8; 7168],
-) {
-    labelled(rt, b"  tick ", time);
-    text(rt, b": ");
-    happened(rt, before, look(image));
-    let position = parameter(image, names::ACTUAL_POSITION);
-    labelled_word(rt, b"position ", position.v);
-    order(rt, image);
-    outputs(rt, image);
-    place(rt, image, program);
-    text(rt, b"\n");
+// A tick, how the board looked before it, and the board behind it.
+#[derive(Clone, Copy)]
+pub(crate) struct Moment<'a> {
+    pub(crate) time: u64,
+    pub(crate) before: Seen,
+    pub(crate) image: &'a [u32; REGISTERS],
+    pub(crate) program: &'a [u8; 7168],
+}
+
+impl Moment<'_> {
+    // Where the program stands, and what of a wait is left.
+    fn write_place<W: fmt::Write>(&self, f: &mut fmt::Formatter<W>) -> fmt::Result {
+        let address = reg_image::address(self.image);
+        let program = self.program;
+        let record = store::record_at(program, address as usize);
+        write!(f, "; at {address} {}", Mnemonic(record))?;
+        if reg_image::armed(self.image) {
+            write!(f, ", ticks left {}", reg_image::count(self.image))?;
+        }
+        write!(f, ", depth {}", reg_image::depth(self.image))
+    }
+}
+
+impl fmt::Display for Moment<'_> {
+    fn fmt<W: fmt::Write>(&self, f: &mut fmt::Formatter<W>) -> fmt::Result {
+        let time = self.time;
+        let happened = Happened(self.before, Seen::of(self.image));
+        let position = parameter(self.image, names::ACTUAL_POSITION);
+        let order = Ordered(self.image);
+        write!(
+            f,
+            "  tick {time}: {happened}position {position}, order {order}, outputs "
+        )?;
+        for port in 0..4 {
+            write!(f, "{}", reg_image::output(self.image, port))?;
+        }
+        self.write_place(f)
+    }
 }

@@ -4,23 +4,23 @@ use mathlib.Core.Path.{◌≡◌, refl, sym, ap, ◌∙◌}
 use mathlib.Core.Bool.{Bool, true, false}
 use lib.Dec.{eqb}
 use borrow.Author.Tests.{eqb-true}
+use Rattle.std.proofs.Common.{Result, Ok, Err}
 use Rattle.words.specs.Word.{pick}
 use Rattle.wire.specs.declared.Command.{Command}
 use Rattle.status.specs.Status.{is_done}
-use Rattle.status.specs.declared.Status.{Status}
-use Rattle.status.specs.declared.Status.TheVariants.{Done, Unknown, Unavailable}
-use Rattle.judge.specs.Judge.{judged, numbered}
-use Rattle.judge.proofs.Numbered.{told}
+use Rattle.status.specs.Refusal.{status_of}
+use Rattle.status.specs.declared.Refusal.{Refusal}
+use Rattle.status.specs.declared.Refusal.TheVariants.{Unknown, Kind, Value, Locked, Unavailable}
+use Rattle.status.specs.declared.Status.TheVariants as status
 use Rattle.points.specs.Points.{point}
 use Rattle.points.specs.declared.Way.{Way}
 use Rattle.points.specs.declared.Way.TheVariants.{Bad}
 use Rattle.leading.specs.Leading.{by_depth, record_status, onward, unless_bad}
-use Rattle.leading.specs.Depths.{at_depth, unless_refused, paths_on, paths_of}
+use Rattle.leading.specs.Depths.{at_depth, paths_on, PathsOf}
 use Rattle.leading.specs.declared.Paths.{Paths}
-use Rattle.leading.specs.declared.Paths.TheVariants as paths
 
 -- ---- a way that is bad by its depth alone
-refused-by : (b : Bool) (w : Way) → unless_bad (pick b Unavailable Done) w ≡ pick b (Bad Unavailable) w
+refused-by : (b : Bool) (w : Way) → unless_bad (pick b status.Unavailable status.Done) w ≡ pick b (Bad status.Unavailable) w
 refused-by true w = refl
 refused-by false w = refl
 
@@ -32,11 +32,11 @@ by-test P n k f g = by (eqb n k) refl
     by true e = f (eqb-true n k e)
     by false e = g e
 
-let_through : (r : Command) (a d : ℕ) → unless_bad (by_depth r (point a d)) (onward r (point a d)) ≡ at_depth (paths_on r a) d
+let_through : (r : Command) (a d : ℕ) → unless_bad (by_depth r (point a d)) (onward r (point a d)) ≡ at_depth (Ok (paths_on r a)) d
 unfolding by_depth onward paths_on
 let_through r a d =
     let n = r.number in
-    let P : Type 0 = unless_bad (by_depth r (point a d)) (onward r (point a d)) ≡ at_depth (paths_on r a) d in
+    let P : Type 0 = unless_bad (by_depth r (point a d)) (onward r (point a d)) ≡ at_depth (Ok (paths_on r a)) d in
     by-test P n 22 (λ e. simp e)
     (λ not-22. by-test P n 21 (λ e. simp e)
     (λ not-21. by-test P n 23 (λ e. simp (e, refused-by))
@@ -45,24 +45,14 @@ let_through r a d =
     (λ not-24. simp (not-22, not-21, not-23, not-28, not-24))))))
 
 -- ---- the paths of a record, at each depth
-pub each : (r : Command) (a d : ℕ) → unless_bad (record_status r (point a d)) (onward r (point a d)) ≡ at_depth (paths_of r a) d
+not-done : (refusal : Refusal) → is_done (status_of refusal) ≡ false
+not-done Unknown = refl
+not-done Kind = refl
+not-done Value = refl
+not-done Locked = refl
+not-done Unavailable = refl
+
+pub each : (r : Command) (a d : ℕ) (x : Result Paths Refusal) → PathsOf r a x → unless_bad (record_status r (point a d)) (onward r (point a d)) ≡ at_depth x d
 unfolding record_status
-each r a d = by (is_done (judged r)) refl
-  where
-    by : (b : Bool) → is_done (judged r) ≡ b → unless_bad (record_status r (point a d)) (onward r (point a d)) ≡ at_depth (paths_of r a) d
-    by true e = simp e (let_through r a d)
-    by false e = simp e
-
--- ---- the arm of a number: the record read again, its status by its fields, and where it leads
-pub arm :
-    (k a : ℕ) {first c e : Command} {s : Status} {p r : Paths} → first ≡ e → first.number ≡ k → c ≡ e → r ≡ unless_refused s p
-    → s ≡ judged (numbered k c) → p ≡ paths_on (numbered k c) a → r ≡ paths_of e a
-arm k a {c = c} {e = e} {p = p} f h q u t g =
-    u
-    ∙ ap (λ (x : Status). unless_refused x p) t
-    ∙ ap (unless_refused (judged (numbered k c))) g
-    ∙ ap (λ (x : Command). paths_of x a) (told k c e q (ap (λ (x : Command). x.number) (sym f) ∙ h))
-
--- no command of the list
-pub unknown : (a : ℕ) {first e : Command} → first ≡ e → judged first ≡ Unknown → paths.Bad Unknown ≡ paths_of e a
-unknown a {first = first} f u = ap (λ (x : Status). unless_refused x (paths_on first a)) (sym u) ∙ ap (λ (x : Command). paths_of x a) f
+each r a d (Ok paths) h = simp h.0 (let_through r a d ∙ ap (λ p. at_depth (Ok p) d) (sym h.1))
+each r a d (Err refusal) h = simp (h, not-done refusal)

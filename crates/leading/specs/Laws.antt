@@ -1,5 +1,6 @@
 -- What a user of ways relies on.
-use Rattle.std.specs.Prelude.{ℕ, ◌≡◌, List}
+use Rattle.std.specs.Prelude.{ℕ, ◌≡◌, List, Result}
+use Rattle.status.specs.declared.Refusal.{Refusal}
 use Rattle.status.specs.declared.Status.{Status}
 use Rattle.status.specs.declared.Status.TheVariants.{Done}
 use Rattle.points.specs.Points.{IsPoint}
@@ -18,4 +19,4 @@ pub record Laws : Type 0 where
   pub leads_in : (program : List ℕ) (p q : Point) → IsPoint p → Leads (way_at program p) q → IsPoint q
   pub reached_in : (program : List ℕ) (p : Point) → Reach (way_at program) p → IsPoint p
   -- what the points of an address lead to, all depths together, is one answer
-  pub one_paths : (program : List ℕ) (a : ℕ) (x y : Paths) → AtEach (way_at program) a x → AtEach (way_at program) a y → x ≡ y
+  pub one_paths : (program : List ℕ) (a : ℕ) (x y : Result Paths Refusal) → AtEach (way_at program) a x → AtEach (way_at program) a y → x ≡ y

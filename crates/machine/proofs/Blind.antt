@@ -4,7 +4,6 @@ use mathlib.Core.Path.{◌≡◌, refl, sym, ap, ◌∙◌}
 use mathlib.Core.Bool.{Bool, true, false, ◌&&◌}
 use mathlib.Core.List.{List}
 use lib.Dec.{eqb}
-use lib.IntN.{ℤ}
 use Rattle.words.specs.Word.{pick}
 use Rattle.words.specs.declared.Word.{Word}
 use Rattle.words.proofs.Bools.{is_T}
@@ -32,7 +31,7 @@ use Rattle.cmd_turns.specs.declared.Left.{Left}
 use Rattle.cmd_turns.specs.declared.Left.TheVariants.{Goes, Stops}
 use Rattle.machine.specs.Applied.{Kept}
 use Rattle.machine.specs.Steps.{Walk, is_going, step_turn, going}
-use Rattle.cmd_turns.specs.Turn.{Turn, turn, on, shut, dropped, work, through, turned}
+use Rattle.cmd_turns.specs.Turn.{Turn, turn, shut, work, through, turned}
 use Rattle.cmd_turns.specs.Deed.{seen}
 use Rattle.cmd_turns.specs.Settled.{directly}
 use Rattle.cmd_turns.proofs.Settled.{direct-turned}

@@ -1,11 +1,11 @@
 -- What a turn does to the wait and to running, and that a step that is no WAIT does not look at the wait. Assumes nothing.
-use Prim.Native.Nat.{ℕ, ◌*◌, ◌+◌}
+use Prim.Native.Nat.{ℕ}
 use native.Mathlib.Omega.{arith}
 use mathlib.Core.Path.{◌≡◌, refl, sym, ap, ◌∙◌}
 use mathlib.Core.Bool.{Bool, true, false, ◌&&◌}
 use mathlib.Core.List.{List}
-use borrow.Author.Tests.{eqb-true, eq-eqb}
-use lib.Dec.{eqb, leb, ltb}
+use borrow.Author.Tests.{eqb-true}
+use lib.Dec.{eqb, leb}
 use lib.IntN.{ℤ}
 use Rattle.words.specs.Word.{pick}
 use Rattle.words.specs.declared.Word.{Word}
@@ -26,9 +26,8 @@ use Rattle.rules.specs.Effects as effect
 use Rattle.rules.specs.Deciding.{decided, worked}
 use Rattle.board.specs.declared.Registers.{Registers}
 use Rattle.reg_image.specs.With.{in_core, with_accumulator}
-use Rattle.cmd_turns.specs.declared.Left.{Left}
 use Rattle.cmd_turns.specs.declared.Left.TheVariants.{Goes, Holds, Stops}
-use Rattle.cmd_turns.specs.Turn.{Turn, turn, to, on, shut, dropped, work, after_wait, flowed, through, turned}
+use Rattle.cmd_turns.specs.Turn.{Turn, turn, on, dropped, work, after_wait, flowed, through, turned}
 use Rattle.cmd_turns.specs.Settled.{stepped}
 use Rattle.cmd_turns.proofs.Settled.{alike}
 use Rattle.cmd_turns.proofs.Decides.{known}

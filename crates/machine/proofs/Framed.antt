@@ -1,7 +1,7 @@
 -- A frame as a program of one record. Assumes nothing.
 use Prim.Native.Nat.{ℕ}
 use native.Mathlib.Omega.{arith}
-use mathlib.Core.Path.{◌≡◌, refl, sym, ap, ◌∙◌}
+use mathlib.Core.Path.{◌≡◌, sym, ap, ◌∙◌}
 use mathlib.Core.List.{List}
 use lib.ListN.{take, drop}
 use Rattle.words.specs.declared.Word.{Word}
@@ -11,7 +11,7 @@ use Rattle.wire.proofs.Parts.{command-part}
 use Rattle.status.specs.declared.Status.TheVariants.{Done}
 use Rattle.board.specs.declared.Registers.{Registers}
 use Rattle.cmd_turns.specs.declared.Left.TheVariants.{Goes}
-use Rattle.cmd_turns.specs.Turn.{Turn, turn, turned}
+use Rattle.cmd_turns.specs.Turn.{turn, turned}
 use Rattle.cmd_turns.specs.Deed.{seen}
 use Rattle.machine.specs.Steps.{Walk, going}
 use Rattle.machine.proofs.Blind.{at_zero, one-step}

@@ -13,16 +13,16 @@ use Rattle.status.specs.declared.Status.{Status}
 use Rattle.status.specs.declared.Status.TheVariants.{Done, Unavailable}
 use Rattle.sheet.specs.Places.{global_in}
 use Rattle.fields.specs.Fields as fields
-use Rattle.judge.specs.Judge.{judged, numbered, is_flow, is_reading}
+use Rattle.judge.specs.Judge.{judged, is_flow, is_reading}
 use Rattle.rules.specs.Reading.{read, global}
 use Rattle.rules.specs.Direct.{directed}
-use Rattle.rules.specs.Outcome.{Changed, changed, done, refused}
+use Rattle.rules.specs.Outcome.{Changed, changed, done}
 use Rattle.rules.specs.Obey as obeying
 use Rattle.board.specs.declared.Registers.{Registers}
 use Rattle.reg_image.specs.Image.{registers_of}
 use Rattle.cmd_turns.specs.declared.Obeyed.{Obeyed}
 use Rattle.cmd_turns.specs.Obeys.{Obeys}
-use Rattle.machine.specs.Direct as spec
+use Rattle.cmd_turns.specs.Obeyed as obeyed
 
 -- an answer that leaves image and store
 same : (l m : List ℕ) (x : Changed) (o : Obeyed) → x ≡ changed (done o.status o.value (registers_of l)) m → Obeys x l o l m
@@ -35,7 +35,7 @@ same l m x o e =
       stays = λ t. t;
     }
 
-pub flow-refused : (l : List ℕ) (d c : Command) → d ≡ c → is_flow d.number ≡ true → (m : List ℕ) (o : Obeyed) → o ≡ spec.refused Unavailable → Obeys (obeying.direct c (registers_of l) m) l o l m
+pub flow-refused : (l : List ℕ) (d c : Command) → d ≡ c → is_flow d.number ≡ true → (m : List ℕ) (o : Obeyed) → o ≡ obeyed.refused Unavailable → Obeys (obeying.direct c (registers_of l) m) l o l m
 unfolding obeying.direct directed
 flow-refused l d c q f m o e =
     let g : is_flow c.number ≡ true = ap (λ (x : Command). is_flow x.number) (sym q) ∙ f in
@@ -56,7 +56,7 @@ module _ (l : List ℕ) (c : Command) (n : c.number ≡ 10) (k : c.kind ≡ 130)
   judge-is : fields.ggp (shows c) ≡ s
   judge-is = ap fields.ggp (sym by-fields) ∙ sym j
 
-  pub not-shown : is_done s ≡ false → (o : Obeyed) → o ≡ spec.refused s → Obeys (obeying.direct c (registers_of l) m) l o l m
+  pub not-shown : is_done s ≡ false → (o : Obeyed) → o ≡ obeyed.refused s → Obeys (obeying.direct c (registers_of l) m) l o l m
   unfolding obeying.direct directed judged is_flow
   not-shown d o e = same l m _ o (ap (λ (x : Command). obeying.direct x (registers_of l) m) by-fields ∙ rw (judge-is, d, e))
 

@@ -1,17 +1,12 @@
 -- Parts of a command of direct mode.
-use Rattle.std.specs.Prelude.{ℕ, ◌≡◌, List, eqb, pos}
-use Rattle.words.specs.Word.{word, pick}
+use Rattle.std.specs.Prelude.{ℕ, ◌≡◌, List, eqb}
+use Rattle.words.specs.Word.{pick}
 use Rattle.words.specs.declared.Word.{Word}
 use Rattle.wire.specs.declared.Command.{Command}
-use Rattle.status.specs.declared.Status.{Status}
 use Rattle.rules.specs.Obey as obeying
 use Rattle.reg_image.specs.Image.{registers_of}
 use Rattle.cmd_turns.specs.declared.Obeyed.{Obeyed}
 use Rattle.cmd_turns.specs.Obeys.{Obeys}
-
--- "value 0; nothing changes"
-abbrev pub refused : Status → Obeyed
-refused s = record { status = s; value = word (pos 0) }
 
 -- "new accumulator for CALC and CALCX, else the value sent"
 abbrev pub answer : Command → Word → Word

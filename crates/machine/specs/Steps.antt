@@ -1,23 +1,24 @@
 -- Steps of records, so many of them from a place of lent bytes on: a program's 1,024, or the one of a frame.
-use Rattle.std.specs.Prelude.{ℕ, zero, suc, ◌+◌, ◌*◌, Bool, true, false, ◌≡◌, List, leb}
+use Rattle.std.specs.Prelude.{ℕ, zero, suc, ◌+◌, ◌*◌, Bool, true, false, ◌≡◌, List, leb, Result}
 use Rattle.words.specs.Word.{pick}
 use Rattle.words.specs.declared.Word.{Word}
 use Rattle.wire.specs.Frame.{command_at}
 use Rattle.wire.specs.declared.Command.{Command}
-use Rattle.status.specs.declared.Status.TheVariants.{Done, Value}
+use Rattle.status.specs.declared.Status.TheVariants.{Value}
+use Rattle.status.specs.declared.Refusal.{Refusal}
 use Rattle.board.specs.declared.Registers.{Registers}
 use Rattle.reg_image.specs.Image.{registers_of, shaped}
 use Rattle.cmd_turns.specs.declared.Deed.{Deed}
 use Rattle.cmd_turns.specs.declared.Left.{Left}
 use Rattle.cmd_turns.specs.declared.Left.TheVariants.{Goes, Holds, Stops}
 use Rattle.cmd_turns.specs.Turn.{Turn, turn, turned}
-use Rattle.cmd_turns.specs.Deed.{doing, seen}
+use Rattle.cmd_turns.specs.Deed.{comes_to, seen}
 use Rattle.machine.specs.declared.Gone.{Gone}
 use Rattle.machine.specs.Applied.{Kept}
 
--- the deed is right for a record
-abbrev pub Right : Command → Word → ℕ → Registers → List ℕ → Deed → Type 0
-Right c a n r m d = doing d (seen a n r) m ≡ turned c (seen a n r) m
+-- what is decided is right for a record
+abbrev pub Right : Command → Word → ℕ → Registers → List ℕ → Result Deed Refusal → Type 0
+Right c a n r m d = comes_to d (seen a n r) m ≡ turned c (seen a n r) m
 
 abbrev pub is_going : Left → Bool
 is_going Goes = true

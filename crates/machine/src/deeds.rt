@@ -6,15 +6,16 @@ ghost use Rattle.std.specs.Prelude.{◌<◌, ◌≡◌};
 ghost use Rattle.rules.specs.Numbers as numbers;
 ghost use Rattle.waiting.specs.Waiting.{armed_with};
 ghost use Rattle.reg_image.specs.With.{in_core};
-ghost use Rattle.cmd_turns.specs.Turn.{dropped};
 ghost use Rattle.cmd_turns.specs.Deed.{cleared_flags, doing, seen};
 ghost use Rattle.reg_image.specs.Image.{registers_of, Leaves};
 ghost use Rattle.machine.specs.Applied.{Makes, Pops};
 ghost use Rattle.machine.specs.Applied as spec;
 
 use crate::Stepped;
-use cmd_turns::{Deed, Left};
-use reg_image::REGISTERS;
+use cmd_turns::{Deed, Left, drop_wait};
+use reg_image::{
+    Depth, Eal, Edv, Entry, Epo, Eto, Last, Output, REGISTERS, Value, X, get, get_at, set, set_at,
+};
 use registers::Order;
 use status::Status;
 use waits::Wait;
@@ -24,7 +25,7 @@ use words::Word;
 const USER_VARIABLES: usize = 47;
 
 // Made anew, field by field: a struct that is copied and changed in a part is copied in pieces.
-fn goes(accumulator: Word, address: u32, status: Status) -> Stepped
+pub(crate) fn goes(accumulator: Word, address: u32, status: Status) -> Stepped
     ensures { result ≡ spec.goes accumulator address status }
 {
     Stepped {
@@ -61,10 +62,10 @@ fn stops(accumulator: Word, address: u32, status: Status) -> Stepped
 fn push(image: &mut [u32; REGISTERS], back: u32)
     ensures { Leaves (spec.pushing back) image.old image.new }
 {
-    let depth = reg_image::depth(image);
+    let depth = get::<Depth>(image);
     if depth < 8 {
-        reg_image::set_entry(image, depth as usize, back);
-        reg_image::set_depth(image, depth + 1);
+        set_at::<Entry>(image, depth as usize, back);
+        set::<Depth>(image, depth + 1);
     }
 }
 
@@ -72,7 +73,7 @@ fn push(image: &mut [u32; REGISTERS], back: u32)
 fn pop(image: &mut [u32; REGISTERS]) -> u32
     ensures { Pops image.old result image.new }
 {
-    let depth = reg_image::depth(image);
+    let depth = get::<Depth>(image);
     if depth == 0 {
         return 0;
     }
@@ -80,16 +81,10 @@ fn pop(image: &mut [u32; REGISTERS]) -> u32
         return 0;
     }
     let less = depth - 1;
-    let back = reg_image::entry(image, less as usize);
-    reg_image::set_entry(image, less as usize, 0);
-    reg_image::set_depth(image, less);
+    let back = get_at::<Entry>(image, less as usize);
+    set_at::<Entry>(image, less as usize, 0);
+    set::<Depth>(image, less);
     back
-}
-
-pub(crate) fn drop_wait(image: &mut [u32; REGISTERS])
-    ensures { Leaves dropped image.old image.new }
-{
-    reg_image::set_wait(image, Wait::dropped());
 }
 
 // A flag after CLE of a type: 0 is ALL.
@@ -106,14 +101,14 @@ fn cleared(kind: u8, own: u8, flag: u32) -> u32
 fn clear(image: &mut [u32; REGISTERS], kind: u8)
     ensures { Leaves (in_core (cleared_flags kind)) image.old image.new }
 {
-    let eto = cleared(kind, 1, reg_image::eto(image));
-    let eal = cleared(kind, 2, reg_image::eal(image));
-    let edv = cleared(kind, 3, reg_image::edv(image));
-    let epo = cleared(kind, 4, reg_image::epo(image));
-    reg_image::set_eto(image, eto);
-    reg_image::set_eal(image, eal);
-    reg_image::set_edv(image, edv);
-    reg_image::set_epo(image, epo);
+    let eto = cleared(kind, 1, get::<Eto>(image));
+    let eal = cleared(kind, 2, get::<Eal>(image));
+    let edv = cleared(kind, 3, get::<Edv>(image));
+    let epo = cleared(kind, 4, get::<Epo>(image));
+    set::<Eto>(image, eto);
+    set::<Eal>(image, eal);
+    set::<Edv>(image, edv);
+    set::<Epo>(image, epo);
 }
 
 // A wait with the count of a word.
@@ -132,7 +127,7 @@ fn armed_with(w: Word) -> Wait
 fn move_to(image: &mut [u32; REGISTERS], w: Word)
     ensures { Leaves (spec.moving w.v) image.old image.new }
 {
-    reg_image::set_value(image, places::axis_place(50), w);
+    set_at::<Value>(image, places::axis_place(50), w);
     reg_image::set_motion(image, Order::Position, Word { v: 0 });
 }
 
@@ -140,7 +135,7 @@ fn move_to(image: &mut [u32; REGISTERS], w: Word)
 fn time_out(image: &mut [u32; REGISTERS])
     ensures { Leaves spec.timed_out image.old image.new }
 {
-    reg_image::set_eto(image, 1);
+    set::<Eto>(image, 1);
     drop_wait(image);
 }
 
@@ -156,10 +151,9 @@ pub(crate) fn apply(
 {
     let next = address + 1;
     match deed {
-        Deed::Refused(status) => goes(accumulator, next, status),
         Deed::Number(w) => goes(w, next, Status::Done),
         Deed::Numbers(w, x) => {
-            reg_image::set_x(image, x);
+            set::<X>(image, x);
             goes(w, next, Status::Done)
         }
         Deed::Jump(to) => goes(accumulator, to as u32, Status::Done),
@@ -172,15 +166,15 @@ pub(crate) fn apply(
             goes(accumulator, back, Status::Done)
         }
         Deed::Set(place, w) => {
-            reg_image::set_value(image, place as usize, w);
+            set_at::<Value>(image, place as usize, w);
             goes(accumulator, next, Status::Done)
         }
         Deed::Output(port, bit) => {
-            reg_image::set_output(image, port as usize, bit);
+            set_at::<Output>(image, port as usize, bit);
             goes(accumulator, next, Status::Done)
         }
         Deed::Last(last) => {
-            reg_image::set_last(image, last);
+            set::<Last>(image, last);
             goes(accumulator, next, Status::Done)
         }
         Deed::Clear(kind) => {
@@ -200,7 +194,7 @@ pub(crate) fn apply(
             goes(accumulator, next, Status::Done)
         }
         Deed::Global(place, w) => {
-            reg_image::set_value(image, place as usize, w);
+            set_at::<Value>(image, place as usize, w);
             store::put_cell(store, sheet::cell_of(place as usize), w);
             goes(accumulator, next, Status::Done)
         }
@@ -217,9 +211,9 @@ pub(crate) fn apply(
             time_out(image);
             goes(accumulator, next, Status::Done)
         }
-        Deed::Dropped(status) => {
+        Deed::Dropped(refusal) => {
             drop_wait(image);
-            goes(accumulator, next, status)
+            goes(accumulator, next, Status::from(refusal))
         }
         Deed::Halt => {
             reg_image::empty_stack(image);
@@ -227,7 +221,7 @@ pub(crate) fn apply(
         }
         Deed::Nothing => stops(accumulator, address, Status::Unknown),
         Deed::User(number, w) => {
-            reg_image::set_value(image, USER_VARIABLES + number as usize, w);
+            set_at::<Value>(image, USER_VARIABLES + number as usize, w);
             goes(accumulator, next, Status::Done)
         }
     }

@@ -6,35 +6,26 @@ ghost use Rattle.rules.specs.Direct as directs;
 ghost use Rattle.rules.specs.Obey as obeying;
 ghost use Rattle.reg_image.specs.Image.{registers_of};
 ghost use Rattle.cmd_turns.specs.Obeys.{Obeys};
+ghost use Rattle.cmd_turns.specs.Obeyed.{refused};
 ghost use Rattle.status.specs.declared.Status.TheVariants as status;
 ghost use Rattle.machine.specs.Alone.{Stays};
 ghost use Rattle.machine.specs.Direct as spec;
 
 use crate::steps::go;
 use cmd_turns::Obeyed;
-use reg_image::REGISTERS;
-use status::Status;
+use reg_image::{Accumulator, Address, REGISTERS};
+use status::{Refusal, Status};
 use wire::{Command, command_in};
 use words::Word;
-
-fn refused(status: Status) -> Obeyed
-    ensures { result ≡ spec.refused status }
-{
-    Obeyed {
-        status: status,
-        value: Word { v: 0 },
-    }
-}
 
 // The value of a reply to a command that was done: CALC and CALCX answer the accumulator.
 fn answer(c: Command, accumulator: Word) -> Word
     ensures { result ≡ spec.answer c accumulator }
 {
-    let number = c.number;
-    match number {
-        19 => accumulator,
-        33 => accumulator,
-        _ => c.value,
+    if matches!(c.number, 19 | 33) {
+        accumulator
+    } else {
+        c.value
     }
 }
 
@@ -42,22 +33,18 @@ fn answer(c: Command, accumulator: Word) -> Word
 fn reads_address(c: Command) -> bool
     ensures { result ≡ (eqb c.number 10 && eqb c.kind 130) }
 {
-    if c.number == 10 {
-        return c.kind == 130;
-    }
-    false
+    c.number == 10 && c.kind == 130
 }
 
 fn show_address(c: Command, image: &[u32; REGISTERS]) -> Obeyed
     ensures { spec.Shows c image.now result }
 {
-    let judged = global_fields::ggp(c);
-    if !judged.is_done() {
-        return refused(judged);
-    }
-    Obeyed {
-        status: Status::Done,
-        value: words::of_bits(reg_image::address(image)),
+    match global_fields::ggp(c) {
+        Ok(()) => Obeyed {
+            status: Status::Done,
+            value: words::of_bits(reg_image::get::<Address>(image)),
+        },
+        Err(refusal) => Obeyed::refused(refusal),
     }
 }
 
@@ -67,12 +54,15 @@ fn obey_record(image: &mut [u32; REGISTERS], store: &mut [u8], frame: &[u8], c: 
     requires { (length frame.now ≡ 9) × (c ≡ command_at frame.now 1) × (is_flow c.number ≡ false) × ((eqb c.number 10 && eqb c.kind 130) ≡ false) }
     ensures { Obeys (obeying.direct c (registers_of image.old) store.old) image.old result image.new store.new }
 {
-    let from = reg_image::accumulator(image);
+    let from = reg_image::get::<Accumulator>(image);
     let gone = go(from, 0, image, store, frame, 1, 1, 1);
     let status = gone.status;
     let accumulator = gone.accumulator;
     if !status.is_done() {
-        return refused(status);
+        return Obeyed {
+            status: status,
+            value: Word { v: 0 },
+        };
     }
     if judge::is_reading(c.number) {
         return Obeyed {
@@ -80,7 +70,7 @@ fn obey_record(image: &mut [u32; REGISTERS], store: &mut [u8], frame: &[u8], c: 
             value: accumulator,
         };
     }
-    reg_image::set_accumulator(image, accumulator);
+    reg_image::set::<Accumulator>(image, accumulator);
     Obeyed {
         status: status,
         value: answer(command_in(&frame[1..8]), accumulator),
@@ -90,14 +80,14 @@ fn obey_record(image: &mut [u32; REGISTERS], store: &mut [u8], frame: &[u8], c: 
 // A command of direct mode, in a frame of nine bytes; a frame of another length has none. One that only a program has is refused before its
 // fields are looked at.
 pub fn direct(image: &mut [u32; REGISTERS], store: &mut [u8], frame: &[u8]) -> Obeyed
-    ensures { (length frame.now ≡ 9 → Obeys (obeying.direct (command_at frame.now 1) (registers_of image.old) store.old) image.old result image.new store.new) × ((length frame.now ≡ 9 → ⊥) → (result ≡ spec.refused status.Unknown) × Stays image.old store.old image.new store.new) }
+    ensures { (length frame.now ≡ 9 → Obeys (obeying.direct (command_at frame.now 1) (registers_of image.old) store.old) image.old result image.new store.new) × ((length frame.now ≡ 9 → ⊥) → (result ≡ refused status.Unknown) × Stays image.old store.old image.new store.new) }
 {
     if frame.len() != 9 {
-        return refused(Status::Unknown);
+        return Obeyed::refused(Refusal::Unknown);
     }
     let c = command_in(&frame[1..8]);
     if judge::is_flow(c.number) {
-        return refused(Status::Unavailable);
+        return Obeyed::refused(Refusal::Unavailable);
     }
     if reads_address(c) {
         return show_address(c, image);

@@ -7,11 +7,10 @@ ghost use Rattle.reg_image.specs.Image.{registers_of, Leaves};
 ghost use Rattle.machine.specs.Steps.{going};
 ghost use Rattle.machine.specs.Alone as spec;
 
-use crate::deeds::drop_wait;
 use crate::steps::go;
 use crate::{Gone, Made};
-use cmd_turns::Left;
-use reg_image::REGISTERS;
+use cmd_turns::{Left, drop_wait};
+use reg_image::{Accumulator, Address, REGISTERS, Running};
 use status::Status;
 
 // Whether the record at an address is a WAIT.
@@ -32,7 +31,7 @@ fn begin(image: &mut [u32; REGISTERS], program: &[u8])
     requires { 7168 ≤ length program.now }
     ensures { Leaves (spec.readied program.now) image.old image.new }
 {
-    let address = reg_image::address(image);
+    let address = reg_image::get::<Address>(image);
     if !is_wait(address, program) {
         drop_wait(image);
     }
@@ -41,22 +40,17 @@ fn begin(image: &mut [u32; REGISTERS], program: &[u8])
 fn is_stop(left: Left) -> bool
     ensures { result ≡ spec.is_stop left }
 {
-    match left {
-        Left::Goes => false,
-        Left::Holds => false,
-        Left::Stops => true,
-    }
+    matches!(left, Left::Stops)
 }
 
 // What was carried by value goes back to its places.
 fn finish(image: &mut [u32; REGISTERS], gone: Gone)
     ensures { Leaves (spec.finished gone) image.old image.new }
 {
-    reg_image::set_accumulator(image, gone.accumulator);
-    reg_image::set_address(image, gone.address);
-    let left = gone.left;
-    if is_stop(left) {
-        reg_image::set_running(image, false);
+    reg_image::set::<Accumulator>(image, gone.accumulator);
+    reg_image::set::<Address>(image, gone.address);
+    if is_stop(gone.left) {
+        reg_image::set::<Running>(image, false);
     }
 }
 
@@ -66,8 +60,8 @@ fn walk(image: &mut [u32; REGISTERS], store: &mut [u8], program: &[u8], budget: 
     ensures { spec.Walks (going program.now 0 1024 budget (turn (spec.readied program.now (registers_of image.old)) store.old status.Done left.Goes)) image.old result image.new store.new }
 {
     begin(image, program);
-    let from = reg_image::accumulator(image);
-    let address = reg_image::address(image);
+    let from = reg_image::get::<Accumulator>(image);
+    let address = reg_image::get::<Address>(image);
     let gone = go(from, address, image, store, program, 0, 1024, budget);
     finish(image, gone);
     gone
@@ -91,7 +85,7 @@ pub fn run(image: &mut [u32; REGISTERS], store: &mut [u8], program: &[u8], budge
     if program.len() != 7168 {
         return none_made();
     }
-    if !reg_image::running(image) {
+    if !reg_image::get::<Running>(image) {
         return none_made();
     }
     if budget == 0 {

@@ -11,11 +11,11 @@ ghost use Rattle.reg_image.specs.Image.{registers_of};
 ghost use Rattle.machine.specs.Applied.{Makes};
 ghost use Rattle.machine.specs.Steps as spec;
 
-use crate::deeds::apply;
+use crate::deeds::{apply, goes};
 use crate::{Gone, Stepped};
 use cmd_turns::{Deed, Left};
-use reg_image::REGISTERS;
-use status::Status;
+use reg_image::{Depth, REGISTERS};
+use status::{Refusal, Status};
 use wire::command_in;
 use words::Word;
 
@@ -30,7 +30,7 @@ fn decide(
     next: u16,
     image: &[u32; REGISTERS],
     store: &[u8],
-) -> Deed
+) -> Result<Deed, Refusal>
     requires { (number ≡ get_or seven.now 0 0) × (next_address address ≡ next) }
     ensures { spec.Right (command_at seven.now 0) accumulator address (registers_of image.now) store.now result }
 {
@@ -54,20 +54,20 @@ fn decide(
         21 => cmd_flow::jc(command_in(seven), accumulator, next, image),
         22 => cmd_flow::ja(command_in(seven)),
         27 => cmd_flow::wait(command_in(seven), accumulator, image),
-        28 => Deed::Halt,
+        28 => Ok(Deed::Halt),
         33 => cmd_numbers::calcx(command_in(seven), accumulator, image),
         34 => cmd_axis::aap(command_in(seven), accumulator),
         35 => cmd_globals::agp(command_in(seven), accumulator, image),
         36 => cmd_numbers::clear(command_in(seven)),
         _ => {
-            let depth = reg_image::depth(image);
+            let depth = reg_image::get::<Depth>(image);
             if number == 23 {
                 return cmd_flow::csub(command_in(seven), depth);
             }
             if number == 24 {
                 return cmd_flow::rsub(depth);
             }
-            Deed::Nothing
+            Ok(Deed::Nothing)
         }
     }
 }
@@ -88,7 +88,7 @@ fn step(
     let p = first + address as usize * 7;
     let next = (address + 1) as u16;
     let number = program[p];
-    let deed = decide(
+    match decide(
         number,
         &program[p..p + 7],
         accumulator,
@@ -96,18 +96,16 @@ fn step(
         next,
         image,
         store,
-    );
-    apply(deed, accumulator, address, image, store)
+    ) {
+        Ok(deed) => apply(deed, accumulator, address, image, store),
+        Err(refusal) => goes(accumulator, address + 1, Status::from(refusal)),
+    }
 }
 
 fn goes_on(left: Left) -> bool
     ensures { result ≡ spec.is_going left }
 {
-    match left {
-        Left::Goes => true,
-        Left::Holds => false,
-        Left::Stops => false,
-    }
+    matches!(left, Left::Goes)
 }
 
 // Steps until the budget is used or one does not go on. The end of the records is told here: what a step
@@ -128,22 +126,20 @@ pub(crate) fn go(
     let mut accumulator = from;
     let mut there = address;
     let mut status = Status::Done;
-    let mut unused = budget;
-    while 0 < unused {
+    for made in 0..budget {
         if records <= there {
             return Gone {
                 accumulator: accumulator,
                 address: there,
                 status: Status::Value,
                 left: Left::Stops,
-                unused: unused - 1,
+                unused: budget - made - 1,
             };
         }
         let stepped = step(accumulator, there, image, store, program, first, records);
         accumulator = stepped.accumulator;
         there = stepped.address;
         status = stepped.status;
-        unused -= 1;
         let left = stepped.left;
         if !goes_on(left) {
             return Gone {
@@ -151,7 +147,7 @@ pub(crate) fn go(
                 address: there,
                 status: status,
                 left: left,
-                unused: unused,
+                unused: budget - made - 1,
             };
         }
     }
@@ -160,6 +156,6 @@ pub(crate) fn go(
         address: there,
         status: status,
         left: Left::Goes,
-        unused: unused,
+        unused: 0,
     }
 }

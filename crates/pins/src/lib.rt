@@ -38,14 +38,14 @@ pub struct Signals {
 fn is_on(w: Word) -> bool
     ensures { result ≡ is_on w.v }
 {
-    order::equals(w, Word { v: 1 })
+    w.v == 1
 }
 
 // 1 where a word is 1, else 0.
 pub fn bit_of(w: Word) -> u8
     ensures { result ≡ bit_of w.v }
 {
-    if is_on(w) { 1 } else { 0 }
+    u8::from(is_on(w))
 }
 
 impl Inputs {
@@ -53,14 +53,8 @@ impl Inputs {
     pub fn in_range(self) -> bool
         ensures { result ≡ inputs_in_range self }
     {
-        let a = self.digital_0;
-        let b = self.digital_1;
-        let bits = [a.v, b.v];
-        if !ranges::each_up_to(&bits, Word { v: 1 }) {
-            return false;
-        }
-        let analog = self.analog();
-        ranges::analog_in_range(&analog)
+        ranges::each_up_to(&[self.digital_0.v, self.digital_1.v], Word { v: 1 })
+            && ranges::analog_in_range(&self.analog())
     }
 
     // As they are.
@@ -76,11 +70,7 @@ impl Signals {
     pub fn in_range(self) -> bool
         ensures { result ≡ signals_in_range self }
     {
-        let a = self.eal;
-        let b = self.edv;
-        let c = self.epo;
-        let bits = [a.v, b.v, c.v];
-        ranges::each_up_to(&bits, Word { v: 1 })
+        ranges::each_up_to(&[self.eal.v, self.edv.v, self.epo.v], Word { v: 1 })
     }
 
     // The alarms that are on.

@@ -8,14 +8,14 @@ ghost use Rattle.points.specs.Points.{first, point_at};
 use status::Status;
 
 // An address with a call depth.
-#[derive(Clone, Copy)]
+#[derive(Clone, Copy, PartialEq, Eq)]
 pub struct Point {
     pub address: u16,
     pub depth: u8,
 }
 
 // Where a point leads.
-#[derive(Clone, Copy)]
+#[derive(Clone, Copy, PartialEq, Eq)]
 pub enum Way {
     // The point is bad, with this status.
     Bad(Status),
@@ -40,14 +40,16 @@ impl Point {
             depth: 0,
         }
     }
+}
 
-    // The point of a number.
-    pub fn numbered(n: u16) -> Self
-        ensures { result ≡ point_at n }
-    {
+// The point of a number.
+impl From<u16> for Point {
+    ghost from_gives = { λ number point. point ≡ point_at number };
+
+    fn from(number: u16) -> Point {
         Point {
-            address: n / 9,
-            depth: (n % 9) as u8,
+            address: number / 9,
+            depth: (number % 9) as u8,
         }
     }
 }

@@ -1,36 +1,18 @@
 -- One place, and one place more. Assumes nothing.
 use Prim.Native.Nat.{ℕ, zero, suc, ◌+◌}
 use native.Mathlib.Numerals.{add-one}
-use mathlib.Core.Path.{◌≡◌, refl, sym, ap, ◌∙◌}
+use mathlib.Core.Path.{◌≡◌, refl, ap, ◌∙◌}
 use mathlib.Core.Bool.{Bool, true, false}
 use mathlib.Core.List.{List}
 use lib.IntN.{ℤ}
 use lib.ListN.{length}
 use Rattle.words.specs.Word.{pick}
-use Rattle.rows.specs.Row.{writes, stored}
+use Rattle.rows.specs.Row.{stored}
 use Rattle.rows.specs.declared.Row.{Row}
 use Rattle.sheet.specs.Rows.{row_at, cell_of}
 use Rattle.store.specs.Store.{put_cell}
 use Rattle.store.proofs.Places.{cell_length}
-use Rattle.values.specs.Values.{set_value}
 use Rattle.resetting.specs.Resetting.{reset_value, reset_cell, reset_values, reset_cells}
-
-module _ (t : List Row) (i : ℕ) where
-  -- a test of the row that was found is one of the row of the sheet
-  there : {b d : Bool} {x : Row} (f : Row → Bool) → b ≡ f x → x ≡ row_at t i → b ≡ d → f (row_at t i) ≡ d
-  there f e p h = ap f (sym p) ∙ sym e ∙ h
-
-  pub value_set : {b : Bool} {x : Row} {us : List ℤ} (vs : List ℤ) → b ≡ writes x.access → x ≡ row_at t i → b ≡ true → us ≡ set_value vs i x.standard.v → us ≡ reset_value t i vs
-  value_set vs e p h u = rw (u, there (λ y. writes y.access) e p h, p)
-
-  pub value-kept : {b : Bool} {x : Row} (vs : List ℤ) → b ≡ writes x.access → x ≡ row_at t i → b ≡ false → vs ≡ reset_value t i vs
-  value-kept vs e p h = rw (there (λ y. writes y.access) e p h)
-
-  pub cell_set : {b : Bool} {x : Row} {k : ℕ} {m : List ℕ} (s : List ℕ) → b ≡ stored x.access → x ≡ row_at t i → b ≡ true → k ≡ cell_of t i → m ≡ put_cell s k x.standard.v → m ≡ reset_cell t i s
-  cell_set s e p h q u = rw (u, there (λ y. stored y.access) e p h, p, q)
-
-  pub cell-kept : {b : Bool} {x : Row} (s : List ℕ) → b ≡ stored x.access → x ≡ row_at t i → b ≡ false → s ≡ reset_cell t i s
-  cell-kept s e p h = rw (there (λ y. stored y.access) e p h)
 
 module _ (t : List Row) where
   pub no-values : (vs : List ℤ) → vs ≡ reset_values t 0 vs

@@ -11,8 +11,7 @@ fn reset_cell(store: &mut [u8], place: usize)
     ensures { store.new ≡ reset_cell rows place store.old }
 {
     let row = sheet::row_at(place);
-    let access = row.access;
-    if access.stores() {
+    if row.access.stores() {
         store::put_cell(store, sheet::cell_of(place), row.standard);
     }
 }
@@ -21,10 +20,8 @@ fn reset_cell(store: &mut [u8], place: usize)
 pub fn reset_cells(store: &mut [u8])
     ensures { store.new ≡ reset_cells rows 103 store.old }
 {
-    let mut place = 0;
-    while place < 103 {
+    for place in 0..sheet::VALUES {
         reset_cell(store, place);
-        place += 1;
     }
 }
 

@@ -33,19 +33,11 @@ pub struct Sample {
 
 impl Sample {
     // Whether every field is in range.
+    #[tactic(auto, unfolding(crate::specs::Sample::sample_in_range))]
     pub fn in_range(self) -> bool
         ensures { result ≡ sample_in_range self }
     {
-        let readings = self.readings;
-        let inputs = self.inputs;
-        let signals = self.signals;
-        if !readings.in_range() {
-            return false;
-        }
-        if !inputs.in_range() {
-            return false;
-        }
-        signals.in_range()
+        self.readings.in_range() && self.inputs.in_range() && self.signals.in_range()
     }
 }
 

@@ -10,9 +10,6 @@ ghost use Rattle.sampling.specs.Sample.{
 use crate::Readings;
 use words::Word;
 
-// The numbers of the parameters, in the order of the readings.
-const NUMBERS: [u8; 8] = [51, 52, 55, 211, 212, 213, 220, 221];
-
 impl Readings {
     // What the parameters are set to.
     pub fn settings(self) -> [i32; 8]
@@ -34,8 +31,7 @@ impl Readings {
     pub fn in_range(self) -> bool
         ensures { result ≡ readings_in_range self }
     {
-        let settings = self.settings();
-        settings_in_range(&settings)
+        settings_in_range(&self.settings())
     }
 }
 
@@ -44,12 +40,11 @@ fn setting_in_range(settings: &[i32; 8], i: usize, place: usize) -> bool
     requires { i < 8 }
     ensures { result ≡ setting_at settings.now i place }
 {
-    let v = settings[i];
-    rows::allowed(sheet::row_at(place), Word { v: v })
+    rows::allowed(sheet::row_at(place), Word { v: settings[i] })
 }
 
-// All eight are looked at, with no end in the middle, and each place is named: so the compiler knows
-// each row.
+// All eight are looked at, by `&` with no end in the middle, and each place is named: so the compiler knows
+// each row. By a chain over places or by `&&` it would not.
 fn settings_in_range(settings: &[i32; 8]) -> bool
     ensures { result ≡ settings_in_range settings.now }
 {

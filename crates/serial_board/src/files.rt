@@ -2,15 +2,13 @@
 //
 // What is written goes into a new file beside the old one, which takes its name once every byte is on
 // the disk. So a file is never half the one and half the other.
-ghost use Rattle.std.specs.Prelude.{◌≤◌, length};
+ghost use Rattle.std.specs.Prelude.{◌≡◌, ◌≤◌, IfOk, IfSome, length};
 
+use crate::failure::Failure;
 use std::fs::OpenFile;
-use std::io::Write;
+use std::io::{ErrorKind, Write};
 use std::rt::Files;
 use std::{fs, io};
-
-// What is added to a file's name while it is written.
-const NEW: [u8; 4] = *b".new";
 
 // Linux's numbers for a name that is too long and for bytes that are no text.
 const NAME_TOO_LONG: i32 = 36;
@@ -22,13 +20,10 @@ fn path_of(name: &[u8]) -> io::Result<&str> {
     if 4096 <= name.len() {
         return Err(io::Error::from_raw_os_error(NAME_TOO_LONG));
     }
-    match str::from_utf8(name) {
-        Ok(text) => Ok(text),
-        Err(_) => Err(io::Error::from_raw_os_error(NO_TEXT)),
-    }
+    str::from_utf8(name).map_err(|_| io::Error::from_raw_os_error(NO_TEXT))
 }
 
-pub(crate) fn open<R: Files>(rt: &R, name: &[u8]) -> io::Result<R::File> {
+fn open<R: Files>(rt: &R, name: &[u8]) -> io::Result<R::File> {
     fs::open(rt, path_of(name)?)
 }
 
@@ -36,31 +31,85 @@ fn create<R: Files>(rt: &R, name: &[u8]) -> io::Result<R::File> {
     fs::create(rt, path_of(name)?)
 }
 
-// A byte of a name with the addition; 0 behind it.
-fn byte_of(name: &[u8], i: usize) -> u8 {
-    if i < name.len() {
-        return name[i];
+// The image of this size in a file, in a room that is longer, so that a longer file is seen to be one;
+// nothing where there is no such file.
+pub fn load<'n, 'r>(
+    rt: &impl Files,
+    name: &'n [u8],
+    size: usize,
+    room: &'r mut [u8; 8192],
+) -> Result<Option<&'r [u8]>, Failure<'n>>
+    ensures { IfOk result (λ found. IfSome found (λ image. length image.now ≡ size)) }
+{
+    let mut file = match open(rt, name) {
+        Ok(file) => file,
+        Err(error) if error.kind() == ErrorKind::NotFound => return Ok(None),
+        Err(error) => return Err(Failure::Io(name, error)),
+    };
+    let count = streams::fill(&mut file, room).map_err(|error| Failure::Io(name, error))?;
+    if count == size {
+        Ok(Some(&room[..count]))
+    } else {
+        Err(Failure::Length(name, size))
     }
-    let k = i - name.len();
-    if k < 4 { NEW[k] } else { 0 }
 }
 
-// A file's name with the addition. Answers its length; a name that is too long fills the path, which
-// no file's name does.
-fn new_name(name: &[u8], path: &mut [u8; 4096]) -> usize {
-    for i in 0..4096 {
-        path[i] = byte_of(name, i);
+// A file that keeps an image: its name, and the one that it has while it is written.
+#[derive(Clone, Copy)]
+pub(crate) struct ImageFile<'a> {
+    pub(crate) name: &'a [u8],
+    fresh: &'a [u8],
+}
+
+impl<'a> ImageFile<'a> {
+    // An empty name is no file. One that is too long fills the room, which no file's name does.
+    pub(crate) fn named(name: &'a [u8], room: &'a mut [u8; 4096]) -> Option<Self> {
+        if name.is_empty() {
+            return None;
+        }
+        let mut left: &mut [u8] = room;
+        let _ = left.write_all(name);
+        let _ = left.write_all(b".new");
+        let behind = left.len();
+        let length = room.len().saturating_sub(behind);
+        Some(ImageFile {
+            name,
+            fresh: &room[..length],
+        })
     }
-    if 4092 < name.len() {
-        return 4096;
+
+    // The bytes into the file.
+    pub(crate) fn save(&self, rt: &impl Files, bytes: &[u8]) -> Result<(), Failure<'a>> {
+        let file = create(rt, self.fresh).map_err(|error| Failure::Io(self.fresh, error))?;
+        let replaced = match put(file, bytes) {
+            Ok(()) => {
+                rename(rt, self.fresh, self.name).map_err(|error| Failure::Io(self.name, error))
+            }
+            Err(error) => Err(Failure::Io(self.fresh, error)),
+        };
+        match replaced {
+            Ok(()) => settle(rt, self.name),
+            Err(_) => remove(rt, self.fresh),
+        }
+        replaced
     }
-    name.len() + 4
 }
 
 // The bytes into a file, whole and on the disk.
 fn put<F: Write + OpenFile + Drop>(mut file: F, bytes: &[u8]) -> io::Result<()> {
     file.write_all(bytes)?;
     file.sync_all()
+}
+
+fn rename(rt: &impl Files, fresh: &[u8], name: &[u8]) -> io::Result<()> {
+    fs::rename(rt, path_of(fresh)?, path_of(name)?)
+}
+
+// A new file that cannot take the name is not left behind, as far as it can be taken away.
+fn remove(rt: &impl Files, fresh: &[u8]) {
+    if let Ok(path) = path_of(fresh) {
+        let _ = fs::remove_file(rt, path);
+    }
 }
 
 // Where a name's last word begins: behind its last slash.
@@ -78,7 +127,7 @@ fn open_folder<R: Files>(rt: &R, name: &[u8]) -> io::Result<R::File> {
     if end == 0 {
         return open(rt, b".");
     }
-    open(rt, &name[0..end])
+    open(rt, &name[..end])
 }
 
 // Has the folder keep a file's new name over a loss of power. Where it cannot, the file holds the image
@@ -87,80 +136,4 @@ fn settle(rt: &impl Files, name: &[u8]) {
     if let Ok(folder) = open_folder(rt, name) {
         let _ = folder.sync_all();
     }
-}
-
-// A new file that cannot take the name is not left behind, as far as it can be taken away.
-fn remove(rt: &impl Files, fresh: &[u8]) {
-    if let Ok(text) = path_of(fresh) {
-        let _ = fs::remove_file(rt, text);
-    }
-}
-
-fn rename(rt: &impl Files, fresh: &[u8], name: &[u8]) -> io::Result<()> {
-    fs::rename(rt, path_of(fresh)?, path_of(name)?)
-}
-
-// The bytes into the new file, which then takes the name.
-fn renamed<R: Files>(
-    rt: &R,
-    stderr: &impl Print,
-    name: &[u8],
-    fresh: &[u8],
-    file: R::File,
-    bytes: &[u8],
-) -> bool {
-    if let Err(error) = put(file, bytes) {
-        streams::tell(stderr, fresh, &error);
-        remove(rt, fresh);
-        return false;
-    }
-    if let Err(error) = rename(rt, fresh, name) {
-        streams::tell(stderr, name, &error);
-        remove(rt, fresh);
-        return false;
-    }
-    settle(rt, name);
-    true
-}
-
-fn replace(rt: &impl Files, stderr: &impl Print, name: &[u8], fresh: &[u8], bytes: &[u8]) -> bool {
-    match create(rt, fresh) {
-        Ok(file) => renamed(rt, stderr, name, fresh, file, bytes),
-        Err(error) => {
-            streams::tell(stderr, fresh, &error);
-            false
-        }
-    }
-}
-
-fn replace_by(
-    rt: &impl Files,
-    stderr: &impl Print,
-    name: &[u8],
-    path: &[u8],
-    length: usize,
-    bytes: &[u8],
-) -> bool {
-    if path.len() < length {
-        return false;
-    }
-    replace(rt, stderr, name, &path[0..length], bytes)
-}
-
-fn replace_at(
-    rt: &impl Files,
-    stderr: &impl Print,
-    name: &[u8],
-    path: &[u8; 4096],
-    length: usize,
-    bytes: &[u8],
-) -> bool {
-    replace_by(rt, stderr, name, path, length, bytes)
-}
-
-// The bytes into the file of a name. Where it cannot be, a line on standard error says why.
-pub(crate) fn save(rt: &impl Files, stderr: &impl Print, name: &[u8], bytes: &[u8]) -> bool {
-    let mut path = [0u8; 4096];
-    let length = new_name(name, &mut path);
-    replace_at(rt, stderr, name, &path, length, bytes)
 }

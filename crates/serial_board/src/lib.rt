@@ -2,9 +2,11 @@
 // in image files.
 #![tactic(auto)]
 
+mod failure;
 mod files;
-mod images;
+mod kept;
 mod line;
 
-pub use images::{CELLS, Loaded, PROGRAM, load};
-pub use line::serve;
+pub use failure::Failure;
+pub use files::load;
+pub use line::{CELLS, PROGRAM, serve};

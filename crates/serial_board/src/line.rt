@@ -2,186 +2,133 @@
 // for at most 100 steps.
 //
 // A reply says that what was asked is done, so it goes out only once the files hold what it changed.
-use crate::images::{CELLS, Loaded, PROGRAM};
-use crate::{files, images};
+use crate::failure::Failure;
+use crate::files::ImageFile;
+use crate::kept::Kept;
 use reg_image::REGISTERS;
 use std::rt::Files;
 
+pub const CELLS: usize = 364;
+
+pub const PROGRAM: usize = 7168;
+
 const STEPS: usize = 100;
 
-// Whether a datagram was replied to, by its status.
-fn is_replied(status: u8) -> bool {
-    match status {
-        0 => false,
-        20 => false,
-        23 => false,
-        _ => true,
-    }
-}
-
-fn send(rt: &impl Print, stderr: &impl Print, status: u8, reply: &[u8; 9]) -> bool {
-    if !is_replied(status) {
-        return true;
-    }
-    match rt.write_all(reply) {
-        Ok(()) => true,
-        Err(error) => {
-            streams::tell(stderr, b"standard output", &error);
-            false
-        }
-    }
-}
-
 // The next nine bytes of the line, where there are so many.
-fn receive(rt: &impl Input, stderr: &impl Print, frame: &mut [u8; 9]) -> bool {
-    match streams::fill(&mut rt.reader(), frame) {
-        Ok(count) => count == 9,
-        Err(error) => {
-            streams::tell(stderr, b"standard input", &error);
-            false
-        }
+fn receive(rt: &impl Input) -> Result<Option<[u8; 9]>, Failure<'static>> {
+    let mut frame = [0u8; 9];
+    match streams::fill(&mut rt.reader(), &mut frame) {
+        Ok(count) => Ok((count == 9).then_some(frame)),
+        Err(error) => Err(Failure::Io(b"standard input", error)),
     }
 }
 
-// A datagram, its reply, and what the board does behind it. Answers whether the board goes on.
-fn turn(
-    rt: &(impl Files + Print),
-    stderr: &impl Print,
-    image: &mut [u32; REGISTERS],
-    program: &mut [u8; 7168],
-    cells: &mut [u8; 364],
-    held_program: &mut [u8; 7168],
-    held_cells: &mut [u8; 364],
-    reply: &mut [u8; 9],
-    frame: &[u8; 9],
-    cells_name: &[u8],
-    program_name: &[u8],
-) -> bool {
-    let status = board_datagrams::datagram(image, program, cells, reply, frame);
-    if !images::keep(rt, stderr, program_name, program, held_program) {
-        return false;
-    }
-    if !images::keep(rt, stderr, cells_name, cells, held_cells) {
-        return false;
-    }
-    if !send(rt, stderr, status, reply) {
-        return false;
-    }
-    board_events::tick(image);
-    board_runs::run(image, program, cells, STEPS);
-    images::keep(rt, stderr, cells_name, cells, held_cells)
+fn send(rt: &impl Print, reply: &[u8; 9]) -> Result<(), Failure<'static>> {
+    rt.write_all(reply)
+        .map_err(|error| Failure::Io(b"standard output", error))
 }
 
-// A proved loop has to end, and nothing says that a line does. So the loop counts its turns, up to a
-// number that no run uses up.
-fn turns(
-    rt: &(impl Files + Input + Print),
-    stderr: &impl Print,
-    image: &mut [u32; REGISTERS],
-    program: &mut [u8; 7168],
-    cells: &mut [u8; 364],
-    held_program: &mut [u8; 7168],
-    held_cells: &mut [u8; 364],
-    reply: &mut [u8; 9],
-    frame: &mut [u8; 9],
-    cells_name: &[u8],
-    program_name: &[u8],
-) {
-    for _ in 0..u64::MAX {
-        if !receive(rt, stderr, frame) {
-            break;
-        }
-        if !turn(
-            rt,
-            stderr,
+// A board and its stores.
+#[derive(Drop)]
+struct Board {
+    image: [u32; REGISTERS],
+    program: [u8; PROGRAM],
+    cells: [u8; CELLS],
+}
+
+impl Board {
+    // The board powered up on its stores.
+    fn powered(program: [u8; PROGRAM], cells: [u8; CELLS]) -> Board {
+        let mut image = [0u32; REGISTERS];
+        board_events::power_up(&mut image, &cells);
+        Board {
             image,
             program,
             cells,
-            held_program,
-            held_cells,
-            reply,
+        }
+    }
+
+    // The reply to a datagram, where there is one.
+    fn reply_to(&mut self, frame: &[u8; 9]) -> Option<[u8; 9]> {
+        let mut reply = [0u8; 9];
+        let status = board_datagrams::datagram(
+            &mut self.image,
+            &mut self.program,
+            &mut self.cells,
+            &mut reply,
             frame,
-            cells_name,
-            program_name,
-        ) {
-            break;
+        );
+        match status {
+            0 | 20 | 23 => None,
+            _ => Some(reply),
         }
+    }
+
+    // A tick, and the steps that go into it.
+    fn work(&mut self) {
+        board_events::tick(&mut self.image);
+        board_runs::run(&mut self.image, &self.program, &mut self.cells, STEPS);
     }
 }
 
-// The cells of a file, or the default ones. Answers false where the file is refused.
-fn take_cells(
-    rt: &impl Files,
-    stderr: &impl Print,
-    name: &[u8],
-    cells: &mut [u8; 364],
-    room: &mut [u8; 8192],
-) -> bool {
-    board_events::new_cells(cells);
-    if name.len() == 0 {
-        return true;
+// A board on the line, and what keeps its stores.
+#[derive(Drop)]
+struct Line<'a> {
+    board: Board,
+    program: Kept<'a, PROGRAM>,
+    cells: Kept<'a, CELLS>,
+}
+
+impl<'a> Line<'a> {
+    // The board powered up on the stores of these files.
+    fn opened(
+        rt: &impl Files,
+        cells: Option<ImageFile<'a>>,
+        program: Option<ImageFile<'a>>,
+    ) -> Result<Self, Failure<'a>> {
+        let mut new_cells = [0u8; CELLS];
+        board_events::new_cells(&mut new_cells);
+        let cells = Kept::taken(rt, cells, new_cells)?;
+        let program = Kept::taken(rt, program, [0u8; PROGRAM])?;
+        Ok(Line {
+            board: Board::powered(program.held, cells.held),
+            program,
+            cells,
+        })
     }
-    match images::load(rt, stderr, name, CELLS, room) {
-        Loaded::Taken => {
-            images::copy(room, cells);
-            true
+
+    // A datagram, its reply, and what the board does behind it.
+    fn turn(&mut self, rt: &(impl Files + Print), frame: &[u8; 9]) -> Result<(), Failure<'a>> {
+        let reply = self.board.reply_to(frame);
+        self.program.keep(rt, &self.board.program)?;
+        self.cells.keep(rt, &self.board.cells)?;
+        if let Some(reply) = reply {
+            send(rt, &reply)?;
         }
-        Loaded::Missing => true,
-        Loaded::Refused => false,
+        self.board.work();
+        self.cells.keep(rt, &self.board.cells)
+    }
+
+    // Datagram by datagram. A proved loop has to end, and nothing says that a line does. So the loop counts
+    // its turns, up to a number that no run uses up.
+    fn serve(&mut self, rt: &(impl Files + Input + Print)) -> Result<(), Failure<'a>> {
+        for _ in 0..u64::MAX {
+            let Some(frame) = receive(rt)? else {
+                break;
+            };
+            self.turn(rt, &frame)?;
+        }
+        Ok(())
     }
 }
 
-// The program of a file, or none. Answers false where the file is refused.
-fn take_program(
-    rt: &impl Files,
-    stderr: &impl Print,
-    name: &[u8],
-    program: &mut [u8; 7168],
-    room: &mut [u8; 8192],
-) -> bool {
-    if name.len() == 0 {
-        return true;
-    }
-    match images::load(rt, stderr, name, PROGRAM, room) {
-        Loaded::Taken => {
-            images::copy(room, program);
-            true
-        }
-        Loaded::Missing => true,
-        Loaded::Refused => false,
-    }
-}
-
-// The board powered up on its stores, and the line served.
-fn begin(
+// A session on the files of these names, up to the end of the line or to what fails.
+fn session<'a>(
     rt: &(impl Files + Input + Print),
-    stderr: &impl Print,
-    program: &mut [u8; 7168],
-    cells: &mut [u8; 364],
-    held_program: &mut [u8; 7168],
-    held_cells: &mut [u8; 364],
-    cells_name: &[u8],
-    program_name: &[u8],
-) {
-    images::copy(program, held_program);
-    images::copy(cells, held_cells);
-    let mut image = [0u32; REGISTERS];
-    let mut reply = [0u8; 9];
-    let mut frame = [0u8; 9];
-    board_events::power_up(&mut image, cells);
-    turns(
-        rt,
-        stderr,
-        &mut image,
-        program,
-        cells,
-        held_program,
-        held_cells,
-        &mut reply,
-        &mut frame,
-        cells_name,
-        program_name,
-    );
+    cells: Option<ImageFile<'a>>,
+    program: Option<ImageFile<'a>>,
+) -> Result<(), Failure<'a>> {
+    Line::opened(rt, cells, program)?.serve(rt)
 }
 
 // A board on standard input and output, with its images in the files of these names; an empty name is
@@ -192,25 +139,11 @@ pub fn serve(
     cells_name: &[u8],
     program_name: &[u8],
 ) {
-    let mut program = [0u8; 7168];
-    let mut cells = [0u8; 364];
-    let mut room = [0u8; 8192];
-    if !take_cells(rt, stderr, cells_name, &mut cells, &mut room) {
-        return;
+    let mut cells_room = [0u8; 4096];
+    let mut program_room = [0u8; 4096];
+    let cells = ImageFile::named(cells_name, &mut cells_room);
+    let program = ImageFile::named(program_name, &mut program_room);
+    if let Err(failure) = session(rt, cells, program) {
+        failure.tell(stderr);
     }
-    if !take_program(rt, stderr, program_name, &mut program, &mut room) {
-        return;
-    }
-    let mut held_program = [0u8; 7168];
-    let mut held_cells = [0u8; 364];
-    begin(
-        rt,
-        stderr,
-        &mut program,
-        &mut cells,
-        &mut held_program,
-        &mut held_cells,
-        cells_name,
-        program_name,
-    );
 }

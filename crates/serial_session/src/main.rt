@@ -4,7 +4,7 @@
 // line, and the five bytes are there afterwards.
 #![tactic(auto)]
 
-use serial_board::{CELLS, Loaded, PROGRAM};
+use serial_board::{CELLS, PROGRAM};
 use std::num::wrapping_add_usize;
 use std::rt::Files;
 
@@ -79,13 +79,18 @@ fn put_file(
     width: usize,
 ) -> usize {
     let mut room = [0u8; 8192];
-    match serial_board::load(rt, stderr, file, length, &mut room) {
-        Loaded::Taken => put_parts(out, at, name, &room, fresh, count, width),
-        _ => {
-            let named = text::put_all(out, at, file);
-            text::put_all(out, named, b": no image\n")
+    let is_taken = match serial_board::load(rt, file, length, &mut room) {
+        Ok(image) => image.is_some(),
+        Err(failure) => {
+            failure.tell(stderr);
+            false
         }
+    };
+    if is_taken {
+        return put_parts(out, at, name, &room, fresh, count, width);
     }
+    let named = text::put_all(out, at, file);
+    text::put_all(out, named, b": no image\n")
 }
 
 // The cells of a new board.

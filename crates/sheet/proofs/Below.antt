@@ -1,13 +1,12 @@
 -- A rule at every number below another, by one test that antt computes. Assumes nothing.
-use Prim.Native.Nat.{ℕ, zero, suc, ◌+◌, ◌<◌}
+use Prim.Native.Nat.{ℕ, zero, suc, ◌<◌}
 use native.Mathlib.Nat.{le_of_suc-le-suc, not-suc-le-zero, eq-or-lt_of_le}
 use mathlib.Core.Logic.{⊎_elim}
-use native.Mathlib.Numerals.{add-one}
 use native.Mathlib.Omega.{arith}
 use mathlib.Core.Path.{◌≡◌, refl, subst, sym}
-use mathlib.Core.Bool.{Bool, true, false}
+use mathlib.Core.Bool.{Bool, true}
 use lib.Dec.{T}
-use Rattle.words.proofs.Bools.{is_T, and_left, and_right}
+use Rattle.words.proofs.Bools.{and_left, and_right}
 use Rattle.sheet.specs.Places.{all_below}
 
 pub below : (f : ℕ → Bool) (n : ℕ) → T (all_below f n) → (k : ℕ) → k < n → T (f k)
@@ -17,17 +16,7 @@ below f (suc n) t k h =
     (below f n (and_right (f n) (all_below f n) t) k)
     (eq-or-lt_of_le (le_of_suc-le-suc h))
 
--- the same as equations of Bools: false where it fails at one, and true with one more
-pub below-not : (f : ℕ → Bool) (n k : ℕ) → k < n → f k ≡ false → all_below f n ≡ false
-below-not f n k h e = by (all_below f n) refl
-  where
-    by : (b : Bool) → all_below f n ≡ b → b ≡ false
-    by true q = absurd (subst T e (below f n (is_T (all_below f n) q) k h))
-    by false q = refl
-
-pub below_next : (f : ℕ → Bool) (n : ℕ) → all_below f n ≡ true → f n ≡ true → all_below f (n + 1) ≡ true
-below_next f n h e = rw add-one (simp (h, e))
-
+-- true where it holds at each
 pub below_of : (f : ℕ → Bool) (n : ℕ) → ((k : ℕ) → k < n → f k ≡ true) → all_below f n ≡ true
 below_of f zero h = refl
 below_of f (suc n) h = simp (h n (omega arith), below_of f n (λ k l. h k (omega arith)))

@@ -8,21 +8,14 @@ use mathlib.Core.List.{List, [], ◌∷◌, ◌++◌}
 use lib.ListN.{length, get_or, drop, take, get_or-append}
 use lib.Seq.{get_or-drop}
 use Rattle.words.specs.Word.{pick}
-use Rattle.sheet.specs.Line.{access_of, code_of, line_of, row_of, lines_from, no_line}
+use Rattle.sheet.specs.Line.{line_of, row_of, lines_from, no_line}
 use Rattle.rows.specs.Row.{stored}
 use Rattle.sheet.specs.Rows.{row_at, cells, cell_of}
 use Rattle.sheet.specs.Sheet.{user_row}
 use Rattle.rows.specs.declared.Row.{Row}
-use Rattle.rows.specs.declared.Access.{Access}
-use Rattle.rows.specs.declared.Access.TheVariants.{Rwe, Rw, R}
-
-same-access : (a : Access) → access_of (code_of a) ≡ a
-same-access Rwe = refl
-same-access Rw = refl
-same-access R = refl
 
 same_row : (c : ℕ) (x : Row) → row_of (line_of c x) ≡ x
-same_row c x = rw (same-access x.access)
+same_row c x = refl
 
 -- a line's row stands at its place
 pub line_row : (c : ℕ) (t after : List Row) (i : ℕ) → i < length t → row_of (get_or (lines_from c t) i no_line) ≡ row_at (t ++ after) i

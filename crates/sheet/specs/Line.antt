@@ -1,27 +1,17 @@
 -- The lines of the code's table: a row's numbers, and its cell.
-use Rattle.std.specs.Prelude.{ℕ, ◌+◌, List, [], ◌∷◌, eqb, pos, get_or}
+use Rattle.std.specs.Prelude.{ℕ, ◌+◌, List, [], ◌∷◌, pos, get_or}
 use Rattle.words.specs.Word.{word, pick}
 use Rattle.rows.specs.Row.{stored}
 use Rattle.sheet.specs.Rows.{parameters}
-use Rattle.rows.specs.declared.Access.{Access}
-use Rattle.rows.specs.declared.Access.TheVariants.{Rwe, Rw, R}
+use Rattle.rows.specs.declared.Access.TheVariants.{R}
 use Rattle.rows.specs.declared.Row.{Row}
 use Rattle.sheet.specs.declared.table.Line.{Line}
-
--- the last letter of RWE, RW and R
-abbrev pub code_of : Access → ℕ
-code_of Rwe = 69
-code_of Rw = 87
-code_of R = 82
-
-abbrev pub access_of : ℕ → Access
-access_of n = pick (eqb n 69) Rwe (pick (eqb n 87) Rw R)
 
 abbrev pub line_of : ℕ → Row → Line
 line_of c r =
     record {
       0 = r.number;
-      1 = code_of r.access;
+      1 = r.access;
       2 = r.low.v;
       3 = r.high.v;
       4 = r.standard.v;
@@ -33,7 +23,7 @@ abbrev pub row_of : Line → Row
 row_of l =
     record {
       number = l.0;
-      access = access_of l.1;
+      access = l.1;
       low = word l.2;
       high = word l.3;
       standard = word l.4;
@@ -50,7 +40,7 @@ unfolding parameters
 lines = lines_from 0 parameters
 
 abbrev pub no_line : Line
-no_line = record { 0 = 0; 1 = 0; 2 = pos 0; 3 = pos 0; 4 = pos 0; 5 = 0; 6 = 0 }
+no_line = record { 0 = 0; 1 = R; 2 = pos 0; 3 = pos 0; 4 = pos 0; 5 = 0; 6 = 0 }
 
 -- the line of a place; past the last, zeros
 abbrev pub line_at : ℕ → Line

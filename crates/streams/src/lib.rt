@@ -1,29 +1,53 @@
-// What the crates that read and write share: bytes read until a room is full, and the line that says what
-// failed and why.
+// What the programs that read and write share: bytes read until a room is full, how many arguments there
+// are, bytes spelled as digits, and the line that says what failed and why.
 #![tactic(auto)]
 
-ghost use Rattle.std.specs.Prelude.{◌≤◌, IfOk, length};
+ghost use Rattle.std.specs.Prelude.{◌≤◌, IfOk, Some, length};
+ghost use Rattle.streams.specs.Spelled.{spelled};
 
-use std::io;
+use std::env::FillError;
 use std::io::{Read, Write};
+use std::rt::Env;
+use std::{fmt, io};
 
-// Reads until the room is full, the input ends or a read fails. A turn that reads nothing is the last,
-// so as many turns as the room has bytes are enough.
+// Reads until the room is full, the input ends or a read fails.
 pub fn fill(from: &mut impl Read, room: &mut [u8]) -> io::Result<usize>
     ensures { IfOk result (λ n. n ≤ length room.new) }
 {
     let mut held = 0;
-    for _ in 0..room.len() {
+    while held < room.len() {
         let count = from.read(&mut room[held..])?;
         if count == 0 {
             break;
         }
         held += count;
-        if held == room.len() {
-            break;
-        }
     }
     Ok(held)
+}
+
+// How many arguments there are, the program's own name among them.
+pub fn argument_count(rt: &impl Env) -> usize {
+    (0..usize::MAX)
+        .find(|&place| matches!(rt.arg(place, &mut []), Err(FillError::NotPresent)))
+        .unwrap_or(usize::MAX)
+}
+
+// Bytes as two digits each, single spaces between.
+#[derive(Clone, Copy)]
+pub struct Spelled<'a>(pub &'a [u8]);
+
+impl fmt::Display for Spelled<'_> {
+    ghost output = { λ s. Some (spelled s.0.now) };
+
+    fn fmt<W: fmt::Write>(&self, f: &mut fmt::Formatter<W>) -> fmt::Result {
+        if let [first, rest @ ..] = self.0 {
+            write!(f, "{first:02X}")?;
+            for byte in rest {
+                write!(f, " {byte:02X}")?;
+            }
+        }
+        Ok(())
+    }
 }
 
 // The system's words of an error: as std prints them, they have its number behind them.
@@ -51,6 +75,43 @@ pub fn tell(stream: &impl Print, name: &[u8], error: &io::Error) {
 #[cfg(test)]
 mod tests {
     use super::*;
+
+    // So many arguments of one byte.
+    struct Given(usize);
+
+    impl Env for Given {
+        fn arg(&self, i: usize, buf: &mut [u8]) -> Result<usize, FillError> {
+            if self.0 <= i {
+                return Err(FillError::NotPresent);
+            }
+            if buf.is_empty() {
+                return Err(FillError::TooLong);
+            }
+            Ok(1)
+        }
+
+        fn var(&self, _name: &str, _buf: &mut [u8]) -> Result<usize, FillError> {
+            Err(FillError::NotPresent)
+        }
+
+        fn var_at(&self, _i: usize, _buf: &mut [u8]) -> Result<usize, FillError> {
+            Err(FillError::NotPresent)
+        }
+    }
+
+    #[test]
+    fn the_arguments_are_counted(rt: HostRuntime) {
+        assert_eq!(rt; argument_count(&Given(0)), 0);
+        assert_eq!(rt; argument_count(&Given(3)), 3);
+    }
+
+    #[test]
+    fn bytes_are_spelled(rt: HostRuntime) {
+        let mut said = [b'.'; 12];
+        let mut room: &mut [u8] = &mut said;
+        let _ = write!(room, "{}{}", Spelled(&[]), Spelled(&[0, 0x1f, 0xaa]));
+        assert_eq!(rt; said, *b"00 1F AA....");
+    }
 
     #[test]
     fn the_number_goes(rt: HostRuntime) {

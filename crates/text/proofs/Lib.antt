@@ -1,5 +1,4 @@
+pub mod Putting
 pub mod Reading
 pub mod Pairs
-pub mod Rows
-pub mod Putting
 pub mod Back

@@ -1,93 +1,94 @@
--- Bytes of a line, read pair by pair. Assumes nothing.
-use Prim.Native.Nat.{ℕ, suc, ◌+◌, ◌-◌, ◌*◌, ◌≤◌, ◌<◌}
-use native.Mathlib.Numerals.{add-one, add-two}
+-- Bytes of a text, read pair by pair. Assumes nothing.
+use Prim.Native.Nat.{ℕ, ◌+◌, ◌≤◌, ◌<◌}
 use native.Mathlib.Omega.{arith}
-use mathlib.Core.Path.{◌≡◌, refl, sym, ap, ◌∙◌}
+use mathlib.Core.Path.{◌≡◌, refl, sym, ap, subst, ◌∙◌}
 use mathlib.Core.List.{List, [], ◌∷◌}
-use borrow.Author.Tests.{lt-ltb, le-ltb, ne_eqb}
+use mathlib.Core.Bool.{Bool, true, false}
 use lib.Dec.{ltb, eqb}
-use lib.ListN.{length, get_or, set, drop, drop_of_length-le, get_or-eq_default}
-use lib.Seq.{drop-cons}
-use Rattle.words.proofs.Bools.{same_test}
+use lib.Pointwise.{pointwise}
+use borrow.Author.Tests.{lt-ltb, le-ltb, eqb-true}
+use lib.ListN.{length, get_or, set, take, drop}
+use Rattle.std.specs.Prelude.{Option, Some, None}
 use Rattle.text.specs.Line.{behind_space}
-use Rattle.text.specs.Hex.{digit_value, Taken, no_bytes, pairs_of, hex_at, Took}
-use Rattle.text.specs.declared.scan.Bytes.{Bytes}
+use Rattle.text.specs.Hex.{pair_value, Taken, no_bytes, pairs_of, hex_word, hex_from, hex_at, Took}
 
--- ---- what is left of the line from a place on
-module _ (line : List ℕ) (at : ℕ) where
-  none : length line ≤ at → drop at line ≡ []
-  none h = drop_of_length-le line h
+-- ---- what the pairs of a text make, with so many bytes read before
+shape : (text pair behind : List ℕ) → 2 ≤ length text → pair ≡ take 2 text → behind ≡ drop 2 text
+    → text ≡ get_or pair 0 0 ∷ get_or pair 1 0 ∷ behind
+shape [] pair behind h e f = absurd (omega arith)
+shape (a ∷ []) pair behind h e f = absurd (omega arith)
+shape (a ∷ b ∷ l) pair behind h e f = rw (e, f) refl
 
-  one : at < length line → length line - at < 2 → drop at line ≡ get_or line at 0 ∷ []
-  one h k =
-      let g : length line ≤ suc at = omega arith in
-      let e : drop (suc at) line ≡ [] = drop_of_length-le line g in
-      rw (drop-cons line at 0 h, e)
+module _ (text pair behind : List ℕ) (h : 2 ≤ length text) (e : pair ≡ take 2 text) (f : behind ≡ drop 2 text) (count : ℕ) (room : List ℕ) where
+  pub full : 64 ≤ count → pairs_of text count room ≡ no_bytes room
+  full k = ap (λ (l : List ℕ). pairs_of l count room) (shape text pair behind h e f) ∙ simp (le-ltb count 64 k)
 
-  two : 2 ≤ length line - at → drop at line ≡ get_or line at 0 ∷ get_or line (at + 1) 0 ∷ drop (at + 2) line
-  two h =
-      let k : suc at < length line = omega arith in
-      let j : at < length line = omega arith in
-      drop-cons line at 0 j ∙ rw (add-one at, add-two at, drop-cons line (suc at) 0 k)
+  pub no_pair : None ≡ pair_value pair → pairs_of text count room ≡ no_bytes room
+  no_pair n = ap (λ (l : List ℕ). pairs_of l count room) (shape text pair behind h e f) ∙ by (ltb count 64) refl
+    where
+      by : (t : Bool) → ltb count 64 ≡ t → pairs_of (get_or pair 0 0 ∷ get_or pair 1 0 ∷ behind) count room ≡ no_bytes room
+      by true t = simp (t, sym n)
+      by false t = simp (t, sym n)
 
--- ---- the loop: what the pairs from a place on make, with so many bytes read
-module _ (count : ℕ) (out : List ℕ) where
-  full-of : (l : List ℕ) → 64 ≤ count → 0 < length l → pairs_of l count out ≡ no_bytes out
-  full-of [] h k = absurd (omega arith)
-  full-of (a ∷ []) h k = refl
-  full-of (a ∷ b ∷ l) h k = simp (le-ltb count 64 h)
+  pub one_pair : count < 64 → (byte : ℕ) → Some byte ≡ pair_value pair → pairs_of behind (count + 1) (set room count byte) ≡ pairs_of text count room
+  one_pair k byte n = sym (ap (λ (l : List ℕ). pairs_of l count room) (shape text pair behind h e f) ∙ simp (lt-ltb count 64 k, sym n))
 
-  module _ (line : List ℕ) (at : ℕ) where
-    pub at-end : length line ≤ at
-        → pairs_of (drop at line) count out ≡ record { bytes = record { count = count; read = ltb 0 count }; list = out }
-    at-end h = rw (none line at h)
+pub odd : (text : List ℕ) (count : ℕ) (room : List ℕ) → length text < 2 → (length text ≡ 0 → ⊥) → pairs_of text count room ≡ no_bytes room
+odd [] count room h n = absurd (n refl)
+odd (a ∷ []) count room h n = refl
+odd (a ∷ b ∷ l) count room h n = absurd (omega arith)
 
-    pub full : at < length line → 64 ≤ count → pairs_of (drop at line) count out ≡ no_bytes out
-    full h k = rw (drop-cons line at 0 h) (full-of (get_or line at 0 ∷ drop (suc at) line) k (omega arith))
+pub none-left : (text : List ℕ) (count : ℕ) (room : List ℕ) → length text ≡ 0 → count ≡ 0 → pairs_of text count room ≡ no_bytes room
+none-left [] count room h k = simp k
+none-left (a ∷ l) count room h k = absurd (omega arith)
 
-    pub odd : at < length line → length line - at < 2 → pairs_of (drop at line) count out ≡ no_bytes out
-    odd h k = rw (one line at h k)
-
-    module _ (h : 2 ≤ length line - at) (k : count < 64) where
-      pub no-high : 16 ≤ digit_value (get_or line at 0) → pairs_of (drop at line) count out ≡ no_bytes out
-      no-high g = rw (two line at h) (simp (lt-ltb count 64 k, le-ltb (digit_value (get_or line at 0)) 16 g))
-
-      module _ (g : digit_value (get_or line at 0) < 16) where
-        pub no-low : 16 ≤ digit_value (get_or line (at + 1) 0) → pairs_of (drop at line) count out ≡ no_bytes out
-        no-low f =
-            rw (two line at h)
-            (simp (lt-ltb count 64 k, lt-ltb (digit_value (get_or line at 0)) 16 g, le-ltb (digit_value (get_or line (at + 1) 0)) 16 f))
-
-        pub one-pair : digit_value (get_or line (at + 1) 0) < 16
-            → pairs_of (drop (at + 2) line) (count + 1) (set out count (digit_value (get_or line at 0) * 16 + digit_value (get_or line (at + 1) 0)))
-            ≡ pairs_of (drop at line) count out
-        one-pair f =
-            rw (two line at h)
-            (simp (lt-ltb count 64 k, lt-ltb (digit_value (get_or line at 0)) 16 g, lt-ltb (digit_value (get_or line (at + 1) 0)) 16 f))
+pub all-read : (text : List ℕ) (count : ℕ) (room : List ℕ) → length text ≡ 0 → 0 < count
+    → pairs_of text count room ≡ record { count = Some count; list = room }
+all-read [] count room h k = simp (lt-ltb 0 count k)
+all-read (a ∷ l) count room h k = absurd (omega arith)
 
 -- ---- what was taken
-pub took : (s t : Taken) (r : Bytes) → s ≡ t → r ≡ t.bytes → r.count ≤ 64 → Took s r t.list
-took s t r e b f = record { bytes = b ∙ sym (ap (λ (u : Taken). u.bytes) e); list = sym (ap (λ (u : Taken). u.list) e); few = f }
+pub took_some : (taken : Taken) (count : ℕ) (room : List ℕ) → taken ≡ record { count = Some count; list = room } → count ≤ 64 → Took taken (Some count) room
+took_some taken count room e h = rw e (record { count = refl; list = refl; few = h })
 
-pub refused : (s : Taken) (out : List ℕ) (r : Bytes) → s ≡ no_bytes out → r ≡ (no_bytes out).bytes → Took s r out
-refused s out r e b = took s (no_bytes out) r e b (let f : r.count ≡ 0 = ap (λ (u : Bytes). u.count) b in omega arith)
+pub took_none : (taken : Taken) (room : List ℕ) → taken ≡ no_bytes room → Took taken None room
+took_none taken room e = rw e (record { count = refl; list = refl; few = tt })
 
-module _ (line : List ℕ) (at : ℕ) (out : List ℕ) where
-  pub no_word : behind_space line at ≡ 0 → hex_at line at out ≡ no_bytes out
+pub same_took : (taken other : Taken) (r : Option ℕ) (room : List ℕ) → taken ≡ other → Took taken r room → Took other r room
+same_took taken other r room e h = subst (λ (t : Taken). Took t r room) e h
+
+-- ---- the last word of a line
+module _ (text list : List ℕ) where
+  pub no_word : None ≡ behind_space text → no_bytes list ≡ hex_at text list
   unfolding hex_at
-  no_word e = simp e
+  no_word e = ap (λ (o : Option (List ℕ)). hex_from o list) e
 
-  module _ (from : ℕ) (e : behind_space line at ≡ from) (n : from ≡ 0 → ⊥) where
-    pub no_byte : length line ≤ from → hex_at line at out ≡ no_bytes out
-    unfolding hex_at
-    no_byte h = simp (e, ne_eqb from 0 n, get_or-eq_default line 0 h, none line from h)
+  pub one-word : (word : List ℕ) → Some word ≡ behind_space text → hex_word word list ≡ hex_at text list
+  unfolding hex_at
+  one-word word e = ap (λ (o : Option (List ℕ)). hex_from o list) e
 
-    pub minus : from < length line → get_or line from 0 ≡ 45
-        → hex_at line at out ≡ record { bytes = record { count = 0; read = eqb (length line - from) 1 }; list = out }
-    unfolding hex_at
-    minus k h =
-        simp (e, ne_eqb from 0 n, h, same_test (length line) (from + 1) (length line - from) 1 (λ q. omega arith) (λ q. omega arith))
+pub minus-alone : (word list : List ℕ) → pointwise eqb word (45 ∷ []) ≡ true → record { count = Some 0; list = list } ≡ hex_word word list
+minus-alone [] list h = absurd (cc)
+minus-alone (b ∷ []) list h = by (eqb b 45) refl
+  where
+    by : (t : Bool) → eqb b 45 ≡ t → record { count = Some 0; list = list } ≡ hex_word (b ∷ []) list
+    by true t = sym (simp t)
+    by false t = absurd (let g = simp t at h in cc)
+minus-alone (b ∷ c ∷ l) list h = by (eqb b 45) refl
+  where
+    by : (t : Bool) → eqb b 45 ≡ t → record { count = Some 0; list = list } ≡ hex_word (b ∷ c ∷ l) list
+    by true t = absurd (let g = simp t at h in cc)
+    by false t = absurd (let g = simp t at h in cc)
 
-    pub pairs : (get_or line from 0 ≡ 45 → ⊥) → hex_at line at out ≡ pairs_of (drop from line) 0 out
-    unfolding hex_at
-    pairs h = simp (e, ne_eqb from 0 n, ne_eqb (get_or line from 0) 45 h)
+pub not_minus : (word list : List ℕ) → pointwise eqb word (45 ∷ []) ≡ false → pairs_of word 0 list ≡ hex_word word list
+not_minus [] list h = refl
+not_minus (b ∷ []) list h = by (eqb b 45) refl
+  where
+    by : (t : Bool) → eqb b 45 ≡ t → pairs_of (b ∷ []) 0 list ≡ hex_word (b ∷ []) list
+    by true t = absurd (let g = simp t at h in cc)
+    by false t = sym (simp t)
+not_minus (b ∷ c ∷ l) list h = by (eqb b 45) refl
+  where
+    by : (t : Bool) → eqb b 45 ≡ t → pairs_of (b ∷ c ∷ l) 0 list ≡ hex_word (b ∷ c ∷ l) list
+    by true t = ap (λ (d : ℕ). pairs_of (d ∷ c ∷ l) 0 list) (eqb-true b 45 t) ∙ sym (simp t)
+    by false t = sym (simp t)

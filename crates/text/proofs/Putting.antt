@@ -1,159 +1,142 @@
--- Bytes put into a buffer one behind the other. Assumes nothing.
-use Prim.Native.Nat.{ℕ, zero, suc, ◌+◌, ◌-◌, ◌/◌, ◌%◌, ◌≤◌, ◌<◌}
-use native.Mathlib.Numerals.{add-one}
+-- Texts put one behind the other. Assumes nothing.
+use Prim.Native.Nat.{ℕ, zero, suc, ◌+◌, ◌-◌, ◌/◌, ◌%◌, ◌≤◌, ◌<◌, min}
 use native.Mathlib.Omega.{arith}
 use mathlib.Core.Path.{◌≡◌, refl, sym, ap, ◌∙◌}
-use mathlib.Core.Bool.{Bool, true, false}
-use mathlib.Core.List.{List, [], ◌∷◌}
-use borrow.Author.Tests.{le-ltb, ltb-false, ne_eqb}
-use lib.Dec.{ltb}
+use mathlib.Core.List.{List, [], ◌∷◌, ◌++◌, append_assoc}
+use lib.ListN.{length, take, set, get_or}
+use lib.Seq.{take-append-add}
+use Rattle.std.proofs.lemmas.List.{take_min, append-nil, take_more_set, take_all, take_at, length_push, length-take-le}
+use Rattle.std.proofs.lemmas.Fmt.{decimal_from_prepends, decimal_step, decimal_digit, length-decimal-le}
+use Rattle.std.proofs.Common.{rules}
+use Rattle.std.proofs.lemmas.Slice.{take-put_mid}
+use borrow.Rule.Slice.PartMut.{put_mid}
+use Rattle.std.specs.Fmt as std
+use Rattle.std.specs.Prelude.{unsigned_abs as mag_of}
 use lib.IntN.{ℤ, pos, negsuc}
-use lib.ListN.{length, get_or, set, drop, length-set, drop_of_length-le}
-use lib.Seq.{drop-cons, get_or-set_same, drop-set-lt}
-use mir.Syntax.{w32}
-use mir.Val.{SFits}
-use Rattle.words.specs.Word.{bits_of}
-use Rattle.text.specs.Put.{placed, behind, Put, digits_before, decimal, signed, hex_digit, pairs_for, hex}
+use lib.Signed.{lt_z}
+use borrow.Author.Tests.{ltb-true}
+use mathlib.Core.Bool.{true, false}
+use Rattle.text.specs.Put.{Put, digits_before, decimal, signed, hex_digit, pairs_for, hex}
 
--- ---- where there is no room, nothing is put
-out-full : (l out : List ℕ) (at : ℕ) → 65536 ≤ at → placed out at l ≡ out
-out-full [] out at h = refl
-out-full (b ∷ l) out at h = simp (le-ltb at 65536 h)
+take-take-append : (n : ℕ) (l m : List ℕ) → take n (take n l ++ m) ≡ take n (l ++ m)
+take-take-append zero l m = refl
+take-take-append (suc n) [] m = refl
+take-take-append (suc n) (x ∷ l) m = ap (λ (k : List ℕ). x ∷ k) (take-take-append n l m)
 
-end-full : (l : List ℕ) (at : ℕ) → 65536 ≤ at → behind at l ≡ at
-end-full [] at h = refl
-end-full (b ∷ l) at h = simp (le-ltb at 65536 h)
+-- a text, and then another
+pub then-put : (before first mid second after text : List ℕ)
+    → Put before first mid → Put mid second after → first ++ second ≡ text → Put before text after
+then-put before first mid second after text p q e =
+    record {
+      out =
+          q.out ∙ ap (λ (m : List ℕ). take 65536 (m ++ second)) p.out ∙ take-take-append 65536 (before ++ first) second
+          ∙ ap (λ (l : List ℕ). take 65536 l) (append_assoc before first second ∙ ap (λ (l : List ℕ). before ++ l) e);
+    }
 
--- ---- a byte, and a text behind it
-module _ (out : List ℕ) (at b : ℕ) (l : List ℕ) where
-  out-then : placed (placed out at (b ∷ [])) (behind at (b ∷ [])) l ≡ placed out at (b ∷ l)
-  out-then = by (ltb at 65536) refl
-    where
-      by : (t : Bool) → ltb at 65536 ≡ t → placed (placed out at (b ∷ [])) (behind at (b ∷ [])) l ≡ placed out at (b ∷ l)
-      by true e = simp e
-      by false e = simp e (out-full l out at (ltb-false at 65536 e))
+pub same-put : (before first text after : List ℕ) → Put before first after → first ≡ text → Put before text after
+same-put before first text after p e = rw e at p
 
-  end-then : behind (behind at (b ∷ [])) l ≡ behind at (b ∷ l)
-  end-then = by (ltb at 65536) refl
-    where
-      by : (t : Bool) → ltb at 65536 ≡ t → behind (behind at (b ∷ [])) l ≡ behind at (b ∷ l)
-      by true e = simp e
-      by false e = simp e (end-full l at (ltb-false at 65536 e))
+-- as much of a text as there is room for
+within : (before text : List ℕ) (end : ℕ) → length before ≡ end → end ≤ 65536
+    → before ++ take (min (65536 - end) (length text)) text ≡ take 65536 (before ++ text)
+within before text end e h =
+    let k : 65536 ≡ length before + (65536 - end) = omega arith in
+    ap (λ (l : List ℕ). before ++ l) (take_min (65536 - end) text)
+    ∙ sym (ap (λ (n : ℕ). take n (before ++ text)) k ∙ take-append-add before text (65536 - end))
 
--- ---- what is left to put leaves what the whole text leaves
-pub record Left (out : List ℕ) (end : ℕ) (l : List ℕ) (before : List ℕ) (at : ℕ) (text : List ℕ) : Type 0 where
-  pub same_out : placed out end l ≡ placed before at text
-  pub same_end : behind end l ≡ behind at text
-
-module _ (before : List ℕ) (at : ℕ) (text : List ℕ) where
-  pub all_left : Left before at text before at text
-  all_left = record { same_out = refl; same_end = refl }
-
-  pub one-put : (out after : List ℕ) (end r b : ℕ) (l : List ℕ)
-      → Left out end (b ∷ l) before at text → Put out end (b ∷ []) after r → Left after r l before at text
-  one-put out after end r b l h p = record {
-    same_out = rw (p.out, p.end) (out-then out end b l ∙ h.same_out);
-    same_end = rw p.end (end-then out end b l ∙ h.same_end);
-  }
-
-  pub rest_put : (out after : List ℕ) (end r : ℕ) (l : List ℕ)
-      → Left out end l before at text → Put out end l after r → Put before at text after r
-  rest_put out after end r l h p = record { out = p.out ∙ h.same_out; end = p.end ∙ h.same_end }
-
-  pub none_left : (out : List ℕ) (end : ℕ) (l : List ℕ) → l ≡ [] → Left out end l before at text → Put before at text out end
-  none_left out end l e h = rest_put out out end end l h (record { out = sym (ap (placed out end) e); end = sym (ap (behind end) e) })
-
--- a byte, and then a text
-pub then-put : (before mid after : List ℕ) (at end r b : ℕ) (l : List ℕ)
-    → Put before at (b ∷ []) mid end → Put mid end l after r → Put before at (b ∷ l) after r
-then-put before mid after at end r b l p q =
-    rest_put before at (b ∷ l) mid after end r l (one-put before at (b ∷ l) before mid at end b l (all_left before at (b ∷ l)) p) q
-
-pub same_left : (out : List ℕ) (end : ℕ) (l m before : List ℕ) (at : ℕ) (text : List ℕ)
-    → l ≡ m → Left out end l before at text → Left out end m before at text
-same_left out end l m before at text e h = rw e at h
-
--- ---- the next of a list, and none
-pub next : (l : List ℕ) (i : ℕ) → i < length l → drop i l ≡ get_or l i 0 ∷ drop (i + 1) l
-next l i h = rw (add-one i, drop-cons l i 0 h)
-
-pub no-next : (l : List ℕ) (i : ℕ) → length l ≤ i → drop i l ≡ []
-no-next l i h = drop_of_length-le l h
-
--- ---- digits at the end of an array
-module _ (text : List ℕ) (at rest : ℕ) (h : at ≤ length text) (k : 0 < at) where
-  before : drop (at - 1) (set text (at - 1) (48 + rest % 10)) ≡ (48 + rest % 10) ∷ drop at text
-  before =
-      let v = 48 + rest % 10 in
-      let j : at - 1 < length text = omega arith in
-      let s : at - 1 < length (set text (at - 1) v) = rw length-set j in
-      let e : suc (at - 1) ≡ at = omega arith in
-      let m : at - 1 < at = omega arith in
-      drop-cons (set text (at - 1) v) (at - 1) 0 s ∙ rw (get_or-set_same text (at - 1) v 0 j, e, drop-set-lt at text (at - 1) v m)
-
-  pub digit-more : (rest / 10 ≡ 0 → ⊥)
-      → digits_before (at - 1) (rest / 10) (drop (at - 1) (set text (at - 1) (48 + rest % 10))) ≡ digits_before at rest (drop at text)
-  digit-more n =
-      let e : at ≡ suc (at - 1) = omega arith in
-      ap (digits_before (at - 1) (rest / 10)) before
-      ∙ sym (ap (λ (m : ℕ). digits_before m rest (drop at text)) e ∙ simp (ne_eqb (rest / 10) 0 n))
-
-  pub last-digit : rest / 10 ≡ 0 → drop (at - 1) (set text (at - 1) (48 + rest % 10)) ≡ digits_before at rest (drop at text)
-  last-digit n =
-      let e : at ≡ suc (at - 1) = omega arith in
-      before ∙ sym (ap (λ (m : ℕ). digits_before m rest (drop at text)) e ∙ simp n)
-
-pub small : (n : ℕ) → n < 10 → decimal n ≡ (48 + n) ∷ []
+-- ---- digits
+same_decimal : (n : ℕ) → n < 18446744073709551616 → decimal n ≡ std.decimal n
 unfolding decimal
-small n h =
-    let e : n / 10 ≡ 0 = omega arith in
-    let f : n % 10 ≡ n = omega arith in
-    simp (e, f)
+same_decimal n h = decimal_from_prepends digits_before (search rules) 20 n [] h (length-decimal-le 20 n (omega arith) (omega arith) h) ∙ append-nil _
+
+pub one_digit : (n : ℕ) → n < 10 → decimal n ≡ (48 + n) ∷ []
+one_digit n h = same_decimal n (omega arith) ∙ decimal_digit n h
+
+pub more_digits : (n : ℕ) → 10 ≤ n → n < 18446744073709551616 → decimal n ≡ decimal (n / 10) ++ ((48 + n % 10) ∷ [])
+more_digits n k h =
+    let g : n / 10 < 18446744073709551616 = omega arith in
+    same_decimal n h ∙ decimal_step n k h ∙ sym (ap (λ (l : List ℕ). l ++ ((48 + n % 10) ∷ [])) (same_decimal (n / 10) g))
+
+-- ---- the buffer's bytes, up to the end that they are put to
+module _ (bytes before : List ℕ) (end b : ℕ) (size : length bytes ≡ 65536) (view : take end bytes ≡ before) where
+  pub with-room : end < 65536 → Put before (b ∷ []) (take (end + 1) (set bytes end b))
+  with-room h =
+      let e : end < length bytes = omega arith in
+      let n : length before ≡ end = ap length (sym view) ∙ length-take-le end bytes (omega arith) in
+      let m : length (before ++ b ∷ []) ≤ 65536 = rw length_push (omega arith) in
+      record { out = take_more_set bytes end b e ∙ ap (λ (l : List ℕ). l ++ b ∷ []) view ∙ sym (take_all 65536 (before ++ b ∷ []) m) }
+
+  pub without-room : 65536 ≤ end → end ≤ 65536 → Put before (b ∷ []) before
+  without-room h k =
+      let e : length before ≡ 65536 = ap length (sym view) ∙ length-take-le end bytes (omega arith) ∙ omega arith in
+      record { out = sym (take_at before (b ∷ []) 65536 e) }
+
+pub with-part : (bytes before text part : List ℕ) (end count : ℕ) → length bytes ≡ 65536 → take end bytes ≡ before → end ≤ 65536
+    → count ≡ min (65536 - end) (length text) → part ≡ take count text
+    → Put before text (take (end + count) (put_mid end (end + count - end) bytes part))
+with-part bytes before text part end count size view h e f =
+    let k : count ≤ length text = omega arith in
+    let n : length part ≡ count = ap length f ∙ length-take-le count text k in
+    let m : end + count ≡ end + length part = omega arith in
+    let j : end ≤ length bytes = omega arith in
+    let b : length before ≡ end = ap length (sym view) ∙ length-take-le end bytes j in
+    record {
+      out =
+          take-put_mid end (end + count - end) bytes part (end + count) m j
+          ∙ ap (λ (l : List ℕ). l ++ part) view
+          ∙ ap (λ (l : List ℕ). before ++ l) (f ∙ ap (λ (i : ℕ). take i text) e)
+          ∙ within before text end b h;
+    }
 
 -- ---- bytes as pairs
-pub some : (l : List ℕ) → (length l ≡ 0 → ⊥) → hex l ≡ pairs_for l
-unfolding hex
-some [] n = absurd (n refl)
-some (b ∷ l) n = refl
+pub hex_more : (l : List ℕ) (i : ℕ) → i < length l → pairs_for (take (i + 1) l) ≡ pairs_for (take i l) ++ (hex_digit (get_or l i 0 / 16) ∷ hex_digit (get_or l i 0 % 16) ∷ [])
+hex_more [] i h = absurd (omega arith)
+hex_more (b ∷ l) zero h = refl
+hex_more (b ∷ l) (suc i) h =
+    let k : i < length l = omega arith in
+    let e : suc i + 1 ≡ suc (i + 1) = omega arith in
+    ap (λ (n : ℕ). pairs_for (take n (b ∷ l))) e ∙ ap (λ (m : List ℕ). hex_digit (b / 16) ∷ hex_digit (b % 16) ∷ m) (hex_more l i k)
 
-pub no_bytes : (l : List ℕ) → length l ≡ 0 → hex l ≡ 45 ∷ []
+pub hex_all : (l : List ℕ) (i : ℕ) → (length l ≡ 0 → ⊥) → length l ≤ i → pairs_for (take i l) ≡ hex l
 unfolding hex
-no_bytes [] e = refl
-no_bytes (b ∷ l) e = absurd (omega arith)
+hex_all [] i n h = absurd (n refl)
+hex_all (b ∷ l) i n h = ap pairs_for (take_all i (b ∷ l) h)
+
+pub hex_none : (l : List ℕ) → length l ≡ 0 → 45 ∷ [] ≡ hex l
+unfolding hex
+hex_none [] e = refl
+hex_none (b ∷ l) e = absurd (omega arith)
 
 -- the digits as the code has them
 abbrev digits : List ℕ
 digits = 48 ∷ 49 ∷ 50 ∷ 51 ∷ 52 ∷ 53 ∷ 54 ∷ 55 ∷ 56 ∷ 57 ∷ 97 ∷ 98 ∷ 99 ∷ 100 ∷ 101 ∷ 102 ∷ []
 
-pub table : (d : ℕ) → d < 16 → get_or digits d 0 ≡ hex_digit d
-table zero h = refl
-table (suc zero) h = refl
-table (suc (suc zero)) h = refl
-table (suc (suc (suc zero))) h = refl
-table (suc (suc (suc (suc zero)))) h = refl
-table (suc (suc (suc (suc (suc zero))))) h = refl
-table (suc (suc (suc (suc (suc (suc zero)))))) h = refl
-table (suc (suc (suc (suc (suc (suc (suc zero))))))) h = refl
-table (suc (suc (suc (suc (suc (suc (suc (suc zero)))))))) h = refl
-table (suc (suc (suc (suc (suc (suc (suc (suc (suc zero))))))))) h = refl
-table (suc (suc (suc (suc (suc (suc (suc (suc (suc (suc zero)))))))))) h = refl
-table (suc (suc (suc (suc (suc (suc (suc (suc (suc (suc (suc zero))))))))))) h = refl
-table (suc (suc (suc (suc (suc (suc (suc (suc (suc (suc (suc (suc zero)))))))))))) h = refl
-table (suc (suc (suc (suc (suc (suc (suc (suc (suc (suc (suc (suc (suc zero))))))))))))) h = refl
-table (suc (suc (suc (suc (suc (suc (suc (suc (suc (suc (suc (suc (suc (suc zero)))))))))))))) h = refl
-table (suc (suc (suc (suc (suc (suc (suc (suc (suc (suc (suc (suc (suc (suc (suc zero))))))))))))))) h = refl
-table (suc (suc (suc (suc (suc (suc (suc (suc (suc (suc (suc (suc (suc (suc (suc (suc d)))))))))))))))) h = absurd (omega arith)
+pub digit_at : (d : ℕ) → d < 16 → get_or digits d 0 ≡ hex_digit d
+digit_at zero h = refl
+digit_at (suc zero) h = refl
+digit_at (suc (suc zero)) h = refl
+digit_at (suc (suc (suc zero))) h = refl
+digit_at (suc (suc (suc (suc zero)))) h = refl
+digit_at (suc (suc (suc (suc (suc zero))))) h = refl
+digit_at (suc (suc (suc (suc (suc (suc zero)))))) h = refl
+digit_at (suc (suc (suc (suc (suc (suc (suc zero))))))) h = refl
+digit_at (suc (suc (suc (suc (suc (suc (suc (suc zero)))))))) h = refl
+digit_at (suc (suc (suc (suc (suc (suc (suc (suc (suc zero))))))))) h = refl
+digit_at (suc (suc (suc (suc (suc (suc (suc (suc (suc (suc zero)))))))))) h = refl
+digit_at (suc (suc (suc (suc (suc (suc (suc (suc (suc (suc (suc zero))))))))))) h = refl
+digit_at (suc (suc (suc (suc (suc (suc (suc (suc (suc (suc (suc (suc zero)))))))))))) h = refl
+digit_at (suc (suc (suc (suc (suc (suc (suc (suc (suc (suc (suc (suc (suc zero))))))))))))) h = refl
+digit_at (suc (suc (suc (suc (suc (suc (suc (suc (suc (suc (suc (suc (suc (suc zero)))))))))))))) h = refl
+digit_at (suc (suc (suc (suc (suc (suc (suc (suc (suc (suc (suc (suc (suc (suc (suc zero))))))))))))))) h = refl
+digit_at (suc (suc (suc (suc (suc (suc (suc (suc (suc (suc (suc (suc (suc (suc (suc (suc d)))))))))))))))) h = absurd (omega arith)
 
--- ---- a word by its bits
-pub not_negative : (z : ℤ) → SFits w32 z → bits_of z < 2147483648 → decimal (bits_of z) ≡ signed z
+-- ---- a signed number
+pub not_negative : (z : ℤ) (n : ℕ) → lt_z z (pos 0) ≡ false → n ≡ mag_of z → decimal n ≡ signed z
 unfolding signed
-not_negative (pos n) f h = refl
-not_negative (negsuc n) f h = let g = f.sfits in absurd (omega arith)
+not_negative (pos k) n h e = ap decimal e
+not_negative (negsuc k) n h e = absurd (cc)
 
-pub negative : (z : ℤ) → SFits w32 z → 2147483648 ≤ bits_of z → 45 ∷ decimal (4294967296 - bits_of z) ≡ signed z
+pub negative : (z : ℤ) (n : ℕ) → lt_z z (pos 0) ≡ true → n ≡ mag_of z → 45 ∷ decimal n ≡ signed z
 unfolding signed
-negative (pos n) f h = let g = f.sfits in absurd (omega arith)
-negative (negsuc n) f h =
-    let g = f.sfits in
-    let e : 4294967296 - bits_of (negsuc n) ≡ suc n = omega arith in
-    ap (λ (m : ℕ). 45 ∷ decimal m) e
+negative (pos k) n h e = absurd (omega (arith, ltb-true k 0 h))
+negative (negsuc k) n h e = ap (λ (m : ℕ). 45 ∷ decimal m) e

@@ -1,6 +1,5 @@
 pub mod Line
 pub mod Numbers
 pub mod Hex
-pub mod Beneath
 pub mod Put
 pub mod Laws

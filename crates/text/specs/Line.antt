@@ -1,7 +1,8 @@
 -- "Words are separated by single spaces."
-use Rattle.std.specs.Prelude.{ℕ, ◌+◌, List, eqb, get_or}
+use Rattle.std.specs.Prelude.{ℕ, List, [], ◌∷◌, eqb, Option, Some, None}
 use Rattle.words.specs.Word.{pick}
 
--- where the word behind a space begins; 0, where no word begins, if no space is there
-unfoldable pub behind_space : List ℕ → ℕ → ℕ
-behind_space line at = pick (eqb (get_or line at 0) 32) (at + 1) 0
+-- what stands behind the space that a text begins with, if one is there
+abbrev pub behind_space : List ℕ → Option (List ℕ)
+behind_space [] = None
+behind_space (b ∷ l) = pick (eqb b 32) (Some l) None

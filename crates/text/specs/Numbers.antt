@@ -1,19 +1,19 @@
--- "Numbers are decimal, with a minus sign where negative, and fit a signed 64-bit number." A number is given by its sign and its size,
--- with the place behind its last digit, which is 0 where there is none.
-use Rattle.std.specs.Prelude.{ℕ, zero, suc, ◌+◌, ◌-◌, ◌*◌, ◌%◌, ◌≡◌, Bool, true, false, ◌&&◌, List, [], ◌∷◌, eqb, leb, ltb, ℤ, length, get_or, set, drop}
-use Rattle.words.specs.Word.{pick, word, of_bits}
+-- "Numbers are decimal, with a minus sign where negative, and fit a signed 64-bit number." What is read at the front of a text is given
+-- with what stands behind it.
+use Rattle.std.specs.Prelude.{ℕ, zero, suc, ◌+◌, ◌-◌, ◌*◌, ◌≡◌, Bool, true, false, ◌&&◌, List, [], ◌∷◌, eqb, leb, ltb, ℤ, pos, negsuc, take, drop, Option, Some, None}
+use Rattle.std.specs.List.{prefix_len}
+use Rattle.std.specs.Option.{option_and_then, option_map}
+use Rattle.words.specs.Word.{pick, word, bits_of, of_bits}
 use Rattle.words.specs.declared.Word.{Word}
 use Rattle.text.specs.Line.{behind_space}
-use Rattle.text.specs.declared.scan.Number.{Number}
 
 -- ---- digits
 abbrev pub is_digit : ℕ → Bool
 is_digit b = leb 48 b && leb b 57
 
--- those that a text begins with
-abbrev pub digits_of : List ℕ → List ℕ
-digits_of [] = []
-digits_of (b ∷ l) = pick (is_digit b) (b ∷ digits_of l) []
+-- how many of them a text begins with
+abbrev pub digit_count : List ℕ → ℕ
+digit_count text = prefix_len is_digit text
 
 -- the size of a number that goes on with these digits
 abbrev pub size_of : ℕ → List ℕ → ℕ
@@ -21,65 +21,77 @@ size_of n [] = n
 size_of n (b ∷ l) = size_of (n * 10 + (b - 48)) l
 
 -- ---- one number
-abbrev pub no_number : Number
-no_number = record { minus = false; size = 0; next = 0 }
-
 -- the size of the lowest signed 64-bit number, and of the highest
 abbrev pub most_of : Bool → ℕ
 most_of minus = pick minus 9223372036854775808 9223372036854775807
 
--- there is a number where it has a digit, and fits
-abbrev pub fitting : Bool → ℕ → ℕ → ℕ → Number
-fitting minus start size next =
-    pick (eqb next start) no_number (pick (ltb (most_of minus) size) no_number (record { minus = minus; size = size; next = next }))
+abbrev pub negative : ℕ → ℤ
+negative zero = pos 0
+negative (suc n) = negsuc n
 
-abbrev pub of_digits : Bool → ℕ → List ℕ → Number
-of_digits minus start digits = fitting minus start (size_of 0 digits) (start + length digits)
+-- the number that a sign and a size give
+abbrev pub value_of : Bool → ℕ → ℤ
+value_of minus size = pick minus (negative size) (pos size)
 
-unfoldable pub number_from : Bool → List ℕ → ℕ → Number
-number_from minus line start = of_digits minus start (digits_of (drop start line))
+-- there is a number where it fits
+unfoldable pub signed_of : Bool → ℕ → Option ℤ
+signed_of minus size = pick (ltb (most_of minus) size) None (Some (value_of minus size))
 
--- the number that begins at a place, with a minus or with a digit
-abbrev pub number_word : List ℕ → ℕ → Number
-number_word line from = pick (eqb (get_or line from 0) 45) (number_from true line (from + 1)) (number_from false line from)
+-- and where it has a digit
+abbrev pub of_digits : Bool → List ℕ → Option ℤ
+of_digits minus [] = None
+of_digits minus (d ∷ l) = signed_of minus (size_of 0 (d ∷ l))
 
--- the number behind a space at a place
-unfoldable pub number_at : List ℕ → ℕ → Number
-number_at line at = pick (eqb (behind_space line at) 0) no_number (number_word line (behind_space line at))
+unfoldable pub number_from : Bool → List ℕ → Option (ℤ × List ℕ)
+number_from minus text = option_map (λ n. (n, drop (digit_count text) text)) (of_digits minus (take (digit_count text) text))
+
+-- the number that a text begins with, by a minus or by a digit
+abbrev pub number_word : List ℕ → Option (ℤ × List ℕ)
+number_word [] = None
+number_word (b ∷ l) = pick (eqb b 45) (number_from true l) (number_from false (b ∷ l))
+
+-- the number behind a space
+unfoldable pub number_at : List ℕ → Option (ℤ × List ℕ)
+number_at text = option_and_then number_word (behind_space text)
 
 -- ---- what a number is
-unfoldable pub is_up_to : ℕ → Number → Bool
-is_up_to most n = pick n.minus (eqb n.size 0) (leb n.size most)
+abbrev pub is_up_to : ℕ → ℤ → Bool
+is_up_to most (pos n) = leb n most
+is_up_to most (negsuc n) = false
 
-unfoldable pub is_word : Number → Bool
-is_word n = pick n.minus (leb n.size 2147483648) (ltb n.size 2147483648)
+abbrev pub is_word : ℤ → Bool
+is_word (pos n) = ltb n 2147483648
+is_word (negsuc n) = ltb n 2147483648
 
--- its last 32 bits: of a negative one, what they lack to 2^32
-abbrev pub last_bits : Number → ℕ
-last_bits n = pick n.minus ((4294967296 - n.size % 4294967296) % 4294967296) (n.size % 4294967296)
+-- the word of its last 32 bits
+abbrev pub word_of : ℤ → Word
+word_of n = word (of_bits (bits_of n))
 
-unfoldable pub word_of : Number → Word
-word_of n = word (of_bits (last_bits n))
+-- ---- numbers of a kind
+abbrev pub size : ℤ → ℕ
+size (pos n) = n
+size (negsuc n) = suc n
 
--- ---- words in decimal one behind the other: where they end, and the list with them put into it
-pub record Row : Type 0 where
-  pub end : ℕ
-  pub words : List ℤ
+-- one from 0 to a highest
+abbrev pub if_up_to : ℕ → ℤ × List ℕ → Option (ℕ × List ℕ)
+if_up_to most read = pick (is_up_to most read.0) (Some (size read.0, read.1)) None
 
--- so many from a place of the list on, up to the first that is no word, where 0 is the end
-abbrev pub row_from : ℕ → List ℕ → ℕ → ℕ → List ℤ → Row
-row_from zero line at i words = record { end = at; words = words }
-row_from (suc left) line at i words =
-    pick (eqb (number_at line at).next 0) (record { end = 0; words = words })
-    (pick (is_word (number_at line at))
-    (row_from left line (number_at line at).next (suc i) (set words i (word_of (number_at line at)).v))
-    (record { end = 0; words = words }))
+unfoldable pub up_to_at : ℕ → List ℕ → Option (ℕ × List ℕ)
+up_to_at most text = option_and_then (if_up_to most) (number_at text)
 
--- sixteen at most
-unfoldable pub row_at : List ℕ → ℕ → ℕ → List ℤ → Row
-row_at line from count words = row_from (pick (leb count 16) count 16) line from 0 words
+-- one that a word holds
+abbrev pub if_word : ℤ × List ℕ → Option (ℤ × List ℕ)
+if_word read = pick (is_word read.0) (Some ((word_of read.0).v, read.1)) None
 
--- an answer and the list that was lent with it
-pub record RowRead (row : Row) (r : ℕ) (after : List ℤ) : Type 0 where
-  pub end : r ≡ row.end
-  pub words : after ≡ row.words
+unfoldable pub word_at : List ℕ → Option (ℤ × List ℕ)
+word_at text = option_and_then if_word (number_at text)
+
+-- so many of them, one behind the other
+abbrev pub words_at : ℕ → List ℕ → Option (List ℤ × List ℕ)
+words_at zero text = Some ([], text)
+words_at (suc n) text = option_and_then (λ r. option_map (λ q. (r.0 ∷ q.0, q.1)) (words_at n r.1)) (word_at text)
+
+-- ---- an answer, and what is left of the text: all of it where nothing is read
+abbrev pub Reads : {A : Type 0} → Option (A × List ℕ) → List ℕ → Option A → List ℕ → Type 0
+Reads None before r after = (r ≡ None) × (after ≡ before)
+Reads (Some read) before r after = (r ≡ Some read.0) × (after ≡ read.1)

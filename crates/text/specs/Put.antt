@@ -1,22 +1,10 @@
 -- Words put into a buffer of 65,536 bytes: a space, and a number in decimal or bytes in hex.
-use Rattle.std.specs.Prelude.{ℕ, zero, suc, ◌+◌, ◌/◌, ◌%◌, ◌≡◌, List, [], ◌∷◌, eqb, ltb, ℤ, pos, negsuc, set}
+use Rattle.std.specs.Prelude.{ℕ, zero, suc, ◌+◌, ◌/◌, ◌%◌, ◌≡◌, List, [], ◌∷◌, ◌++◌, eqb, ltb, ℤ, pos, negsuc, take}
 use Rattle.words.specs.Word.{pick}
 
--- ---- bytes in the buffer
--- the buffer with a text put into it from a place on: bytes that find no room are left out
-abbrev pub placed : List ℕ → ℕ → List ℕ → List ℕ
-placed out at [] = out
-placed out at (b ∷ l) = pick (ltb at 65536) (placed (set out at b) (at + 1) l) out
-
--- the place behind it
-abbrev pub behind : ℕ → List ℕ → ℕ
-behind at [] = at
-behind at (b ∷ l) = pick (ltb at 65536) (behind (at + 1) l) at
-
--- the buffer before and after, and the answer
-pub record Put (before : List ℕ) (at : ℕ) (text : List ℕ) (after : List ℕ) (r : ℕ) : Type 0 where
-  pub out : after ≡ placed before at text
-  pub end : r ≡ behind at text
+-- a text put behind what is put before: bytes that find no room are left out
+pub record Put (before text after : List ℕ) : Type 0 where
+  pub out : after ≡ take 65536 (before ++ text)
 
 -- ---- numbers
 -- the digits of a number before a text, so many at most, the last first

@@ -1,119 +1,110 @@
-// Words put into a lent buffer of 64 KiB at a place. Each function answers the place behind what it put;
-// bytes that find no room are left out, so a caller sees to room first.
-ghost use Rattle.std.specs.Prelude.{◌≡◌, [], ◌∷◌, length, drop};
+// A buffer of 64 KiB, filled from its front. A contract sees the bytes that are put.
+//
+// Bytes that find no room are left out, so a caller sees to room first.
+ghost use Rattle.std.specs.Prelude.{◌≡◌, ◌≤◌, List, [], ◌∷◌, ℕ, take, length};
 ghost use Rattle.text.specs.Put.{Put, decimal, signed, hex};
 
-use words::Word;
+use std::marker::Model;
+
+const ROOM: usize = 65536;
 
 const DIGITS: [u8; 16] = *b"0123456789abcdef";
 
-pub fn put(out: &mut [u8; 65536], at: usize, b: u8) -> usize
-    ensures { Put out.old at (b ∷ []) out.new result }
-{
-    if at < 65536 {
-        out[at] = b;
-        at + 1
-    } else {
-        at
-    }
+#[derive(Drop)]
+pub struct Output {
+    bytes: [u8; ROOM],
+    end: usize,
 }
 
-pub fn put_all(out: &mut [u8; 65536], at: usize, text: &[u8]) -> usize
-    ensures { Put out.old at text.now out.new result }
-{
-    let mut end = at;
-    let mut i = 0;
-    while i < text.len() {
-        end = put(out, end, text[i]);
-        i += 1;
-    }
-    end
+impl Model for Output {
+    ghost Value = { List ℕ };
+
+    ghost view = { λ o. take o.end o.bytes };
+
+    ghost invariant = { λ o. o.end ≤ 65536 };
 }
 
-// A number's digits at the end of an array. Answers where they begin.
-fn spell(n: u64, text: &mut [u8; 20]) -> usize
-    requires { length text.old ≡ 20 }
-    ensures { (length text.new ≡ 20) × (drop result text.new ≡ decimal n) }
-{
-    let mut rest = n;
-    let mut at = 20;
-    while 0 < at {
-        at -= 1;
-        text[at] = 48 + (rest % 10) as u8;
-        rest /= 10;
-        if rest == 0 {
-            break;
+impl Output {
+    pub fn new() -> Self
+        ensures { result ≡ [] }
+    {
+        Output {
+            bytes: [0; ROOM],
+            end: 0,
         }
     }
-    at
-}
 
-// The end of a spelt number, from where it begins.
-fn put_spelt(out: &mut [u8; 65536], at: usize, text: &[u8; 20], from: usize) -> usize
-    requires { length text.now ≡ 20 }
-    ensures { Put out.old at (drop from text.now) out.new result }
-{
-    let mut end = at;
-    let mut i = from;
-    while i < 20 {
-        end = put(out, end, text[i]);
-        i += 1;
+    pub fn as_slice(&self) -> &[u8]
+        ensures { result.now ≡ self.now }
+    {
+        &self.bytes[..self.end]
     }
-    end
-}
 
-fn put_decimal(out: &mut [u8; 65536], at: usize, n: u64) -> usize
-    ensures { Put out.old at (decimal n) out.new result }
-{
-    if n < 10 {
-        return put(out, at, 48 + n as u8);
+    pub fn clear(&mut self)
+        ensures { self.new ≡ [] }
+    {
+        self.end = 0;
     }
-    let mut text = [0u8; 20];
-    let from = spell(n, &mut text);
-    put_spelt(out, at, &text, from)
-}
 
-// A space, and a number in decimal.
-pub fn put_number(out: &mut [u8; 65536], at: usize, n: u64) -> usize
-    ensures { Put out.old at (32 ∷ decimal n) out.new result }
-{
-    let behind = put(out, at, b' ');
-    put_decimal(out, behind, n)
-}
-
-// A space, and a word in decimal: its bits, or a minus and what they lack to 2^32.
-pub fn put_signed(out: &mut [u8; 65536], at: usize, v: i32) -> usize
-    ensures { Put out.old at (32 ∷ signed v) out.new result }
-{
-    let bits = words::bits_of(Word { v: v }) as u64;
-    if bits < 2147483648 {
-        return put_number(out, at, bits);
+    pub fn put(&mut self, b: u8)
+        ensures { Put self.old (b ∷ []) self.new }
+    {
+        if self.end < ROOM {
+            self.bytes[self.end] = b;
+            self.end += 1;
+        }
     }
-    let space = put(out, at, b' ');
-    let minus = put(out, space, b'-');
-    put_decimal(out, minus, 4294967296 - bits)
-}
 
-fn wide(b: u8) -> usize
-    ensures { result ≡ b }
-{
-    b as usize
-}
+    pub fn put_all(&mut self, text: &[u8])
+        ensures { Put self.old text.now self.new }
+    {
+        let count = (ROOM - self.end).min(text.len());
+        let end = self.end + count;
+        self.bytes[self.end..end].copy_from_slice(&text[..count]);
+        self.end = end;
+    }
 
-// A space, and bytes as pairs of hex digits: a minus where there are none.
-pub fn put_bytes(out: &mut [u8; 65536], at: usize, bytes: &[u8]) -> usize
-    ensures { Put out.old at (32 ∷ hex bytes.now) out.new result }
-{
-    let mut end = put(out, at, b' ');
-    if bytes.len() == 0 {
-        return put(out, end, b'-');
+    // The digits one by one: `write!` promises them only where it answers `Ok`, and this cannot fail.
+    fn put_decimal(&mut self, n: u64)
+        ensures { Put self.old (decimal n) self.new }
+    {
+        if 10 <= n {
+            self.put_decimal(n / 10);
+        }
+        self.put(b'0' + (n % 10) as u8);
     }
-    let mut i = 0;
-    while i < bytes.len() {
-        let b = wide(bytes[i]);
-        end = put(out, end, DIGITS[b / 16 % 16]);
-        end = put(out, end, DIGITS[b % 16]);
-        i += 1;
+
+    // A space, and a number in decimal.
+    pub fn put_number(&mut self, n: u64)
+        ensures { Put self.old (32 ∷ decimal n) self.new }
+    {
+        self.put(b' ');
+        self.put_decimal(n);
     }
-    end
+
+    // A space, and a number in decimal, behind a minus where it is negative.
+    pub fn put_signed(&mut self, n: i32)
+        ensures { Put self.old (32 ∷ signed n) self.new }
+    {
+        self.put_all(b" ");
+        if n < 0 {
+            self.put(b'-');
+        }
+        self.put_decimal(u64::from(n.unsigned_abs()));
+    }
+
+    // A space, and bytes as pairs of hex digits: a minus where there are none.
+    pub fn put_bytes(&mut self, bytes: &[u8])
+        ensures { Put self.old (32 ∷ hex bytes.now) self.new }
+    {
+        self.put_all(b" ");
+        if bytes.is_empty() {
+            self.put_all(b"-");
+            return;
+        }
+        for byte in bytes {
+            self.put(DIGITS[usize::from(*byte / 16)]);
+            self.put(DIGITS[usize::from(*byte % 16)]);
+        }
+    }
 }

@@ -2,282 +2,198 @@
 //
 // A number fits a signed 64-bit one; digits have no sign but a minus. The digits of bytes are small,
 // and no bytes at all are a minus.
-ghost use Rattle.std.specs.Prelude.{◌≡◌, ◌≤◌, false, drop};
+ghost use Rattle.std.specs.Prelude.{◌≡◌, ◌<◌, ◌≤◌, ◌^◌, [], ℕ, List, ◌↔◌, drop, length};
+ghost use Rattle.std.specs.Option.{option_copied, option_map, SomeIff, IfSome, IsSome};
 ghost use Rattle.text.specs.Line.{behind_space};
-ghost use Rattle.text.specs.Numbers.{is_digit, no_number, fitting, number_at, is_up_to, is_word, word_of, row_at, RowRead};
-ghost use Rattle.text.specs.Hex.{digit_value, hex_at, pairs_of, Took};
-ghost use Rattle.text.specs.Beneath.{grown, spelt_at};
+ghost use Rattle.text.specs.Numbers.{digit_count, size_of, signed_of, number_from, number_at, word_at, up_to_at, words_at, Reads};
+ghost use Rattle.text.specs.Hex.{digit_value, pair_value, hex_at, pairs_of, Took};
 
-use words::Word;
+use std::marker::Model;
 
-// A number by its sign and its size, and where it ends.
-#[derive(Clone, Copy)]
-pub struct Number {
-    pub minus: bool,
-    pub size: u64,
-    pub next: usize,
+// A line that is read word by word. A contract sees what is left of it.
+#[derive(Drop)]
+pub struct Words<'a> {
+    rest: &'a [u8],
 }
 
-// How many bytes a word has, and whether it reads as bytes.
-#[derive(Clone, Copy)]
-pub struct Bytes {
-    pub count: usize,
-    pub read: bool,
+impl<'a> Model for Words<'a> {
+    ghost Value = { List ℕ };
+
+    ghost view = { λ w. w.rest.now };
 }
 
-// What the digits from a place on make, and where they end.
-#[derive(Clone, Copy)]
-struct Spelt {
-    size: u64,
-    next: usize,
-}
-
-// The largest number that one digit more leaves within 64 bits.
-const MOST_BUT_ONE: u64 = 922337203685477580;
-
-// The size of the lowest signed 64-bit number.
-const LOWEST: u64 = 9223372036854775808;
-
-fn wide(b: u8) -> u64
-    ensures { (result ≡ b) × (result ≤ 255) }
+// Behind a space that a text begins with.
+fn behind_space(text: &[u8]) -> Option<&[u8]>
+    ensures { option_copied result ≡ behind_space text.now }
 {
-    b as u64
+    text.strip_prefix(b" ")
 }
 
-fn is_digit(b: u8) -> bool
-    ensures { result ≡ is_digit b }
+// How many digits a text begins with.
+fn digit_count(text: &[u8]) -> usize
+    ensures value { result ≡ digit_count text.now }
+    ensures bound { result ≤ length text.now }
 {
-    48 <= b && b <= 57
+    text.iter().take_while(|b| b.is_ascii_digit()).count()
 }
 
-// A number with one digit more. One that grows too large stays so, and is refused for its size.
-fn grown(n: u64, b: u8) -> u64
-    ensures { result ≡ grown n b }
-{
-    if MOST_BUT_ONE < n {
-        return u64::MAX;
-    }
-    if b < 48 {
-        return n;
-    }
-    n * 10 + wide(b - 48)
-}
-
-fn digits(line: &[u8], from: usize) -> Spelt
-    ensures { result ≡ spelt_at line.now from }
+// The number that digits make.
+fn size(digits: &[u8]) -> Option<u64>
+    ensures { SomeIff result (size_of 0 digits.now < 2 ^ 64) (size_of 0 digits.now) }
 {
     let mut size = 0u64;
-    let mut at = from;
-    while at < line.len() {
-        let b = line[at];
-        if !is_digit(b) {
-            break;
-        }
-        size = grown(size, b);
-        at += 1;
+    for digit in digits {
+        size = size
+            .checked_mul(10)?
+            .checked_add(u64::from(digit.saturating_sub(b'0')))?;
     }
-    Spelt {
-        size: size,
-        next: at,
-    }
+    Some(size)
 }
 
-fn nothing() -> Number
-    ensures { result ≡ no_number }
+// The number that a sign and a size give.
+fn signed(minus: bool, size: u64) -> Option<i64>
+    ensures { result ≡ signed_of minus size }
 {
-    Number {
-        minus: false,
-        size: 0,
-        next: 0,
+    if minus {
+        0i64.checked_sub_unsigned(size)
+    } else {
+        0i64.checked_add_unsigned(size)
     }
 }
 
-// Behind a space at a place: 0 where none is there.
-pub fn behind_space(line: &[u8], at: usize) -> usize
-    ensures { result ≡ behind_space line.now at }
+// The number that a text begins with, behind its minus if it has one, and what stands behind it.
+fn number_from(minus: bool, text: &[u8]) -> Option<(i64, &[u8])>
+    ensures { option_map (λ r. (r.0, r.1.now)) result ≡ number_from minus text.now }
 {
-    if line.len() <= at {
-        return 0;
+    let (digits, rest) = text.split_at(digit_count(text));
+    if digits.is_empty() {
+        return None;
     }
-    if line[at] == b' ' { at + 1 } else { 0 }
+    let number = signed(minus, size(digits)?)?;
+    Some((number, rest))
 }
 
-// A number of so many digits from a place on, where there is one and it fits.
-fn fitting(minus: bool, start: usize, read: Spelt) -> Number
-    ensures { result ≡ fitting minus start read.size read.next }
+// The number behind a space that a text begins with, and what stands behind it.
+fn number_at(text: &[u8]) -> Option<(i64, &[u8])>
+    ensures { option_map (λ r. (r.0, r.1.now)) result ≡ number_at text.now }
 {
-    let next = read.next;
-    let size = read.size;
-    if next == start {
-        return nothing();
-    }
-    if LOWEST < size {
-        return nothing();
-    }
-    if size == LOWEST {
-        if !minus {
-            return nothing();
-        }
-    }
-    Number {
-        minus: minus,
-        size: size,
-        next: next,
+    let word = behind_space(text)?;
+    match word.strip_prefix(b"-") {
+        Some(digits) => number_from(true, digits),
+        None => number_from(false, word),
     }
 }
 
-// The number behind a space at a place.
-pub fn number_at(line: &[u8], at: usize) -> Number
-    ensures { result ≡ number_at line.now at }
+// What a small hex digit counts for.
+fn digit(b: u8) -> Option<u8>
+    ensures value { result ≡ digit_value b }
+    ensures bound { IfSome result (λ d. d < 16) }
 {
-    let from = behind_space(line, at);
-    if from == 0 {
-        return nothing();
-    }
-    if line.len() <= from {
-        return nothing();
-    }
-    if line[from] == b'-' {
-        let start = from + 1;
-        return fitting(true, start, digits(line, start));
-    }
-    fitting(false, from, digits(line, from))
-}
-
-impl Number {
-    // Whether the number is one from 0 to a highest.
-    pub fn is_up_to(self, most: u64) -> bool
-        ensures { result ≡ is_up_to most self }
-    {
-        if self.minus {
-            return self.size == 0;
-        }
-        self.size <= most
-    }
-
-    // Whether a signed 32-bit word holds the number.
-    pub fn is_word(self) -> bool
-        ensures { result ≡ is_word self }
-    {
-        if self.minus {
-            return self.size <= 2147483648;
-        }
-        self.size < 2147483648
-    }
-
-    // The word that has the number's last 32 bits: the number, where a word holds it.
-    pub fn word(self) -> Word
-        ensures { result ≡ word_of self }
-    {
-        let bits = self.size % 4294967296;
-        if self.minus {
-            return words::of_bits(((4294967296 - bits) % 4294967296) as u32);
-        }
-        words::of_bits(bits as u32)
+    match b {
+        b'0'..=b'9' => Some(b - b'0'),
+        b'a'..=b'f' => Some(b - b'a' + 10),
+        _ => None,
     }
 }
 
-// So many words in decimal from a place on, sixteen at most. Answers where they end.
-pub fn numbers_at(line: &[u8], from: usize, count: usize, out: &mut [i32; 16]) -> usize
-    ensures { RowRead (row_at line.now from count out.old) result out.new }
+// The byte of two digits, the high one first.
+fn byte(pair: &[u8; 2]) -> Option<u8>
+    ensures { result ≡ pair_value pair.now }
 {
-    let mut at = from;
-    let mut i = 0;
-    while i < 16 {
-        if i == count {
-            break;
-        }
-        let read = number_at(line, at);
-        at = read.next;
-        if at == 0 {
-            break;
-        }
-        if !read.is_word() {
-            return 0;
-        }
-        let word = read.word();
-        let v = word.v;
-        out[i] = v;
-        i += 1;
-    }
-    at
+    Some(digit(pair[0])? * 16 + digit(pair[1])?)
 }
 
-// What a hex digit counts for: 16 where the byte is none.
-fn digit(b: u8) -> u8
-    ensures { (result ≡ digit_value b) × (result ≤ 16) }
+// The bytes that the pairs of digits of a text make.
+fn pairs(text: &[u8], room: &mut [u8; 64]) -> Option<usize>
+    ensures { Took (pairs_of text.now 0 room.old) result room.new }
 {
-    if b < 48 {
-        return 16;
-    }
-    if b <= 57 {
-        return b - 48;
-    }
-    if b < 97 {
-        return 16;
-    }
-    if b <= 102 {
-        return b - 87;
-    }
-    16
-}
-
-fn no_bytes() -> Bytes
-    ensures { result ≡ record { count = 0; read = false } }
-{
-    Bytes {
-        count: 0,
-        read: false,
-    }
-}
-
-// The bytes that the pairs of digits from a place to the line's end make.
-fn pairs(line: &[u8], from: usize, out: &mut [u8; 64]) -> Bytes
-    ensures { Took (pairs_of (drop from line.now) 0 out.old) result out.new }
-{
-    let mut at = from;
+    let mut rest = text;
     let mut count = 0;
-    while at < line.len() {
-        if 64 <= count {
-            return no_bytes();
+    while let Some((pair, behind)) = rest.split_first_chunk::<2>() {
+        let byte = byte(pair)?;
+        if count == room.len() {
+            return None;
         }
-        if line.len() - at < 2 {
-            return no_bytes();
-        }
-        let high = digit(line[at]);
-        let low = digit(line[at + 1]);
-        if 16 <= high {
-            return no_bytes();
-        }
-        if 16 <= low {
-            return no_bytes();
-        }
-        out[count] = high * 16 + low;
+        room[count] = byte;
         count += 1;
-        at += 2;
+        rest = behind;
     }
-    Bytes {
-        count: count,
-        read: 0 < count,
+    if rest.is_empty() && 0 < count {
+        Some(count)
+    } else {
+        None
     }
 }
 
-// The bytes behind a space at a place, 64 at most, which are the last word of the line.
-pub fn bytes_at(line: &[u8], at: usize, out: &mut [u8; 64]) -> Bytes
-    ensures { Took (hex_at line.now at out.old) result out.new }
-{
-    let from = behind_space(line, at);
-    if from == 0 {
-        return no_bytes();
+impl<'a> Words<'a> {
+    pub fn new(line: &'a [u8]) -> Self
+        ensures { result ≡ line.now }
+    {
+        Words { rest: line }
     }
-    if line.len() <= from {
-        return no_bytes();
+
+    // Something where the line is read to its end.
+    pub fn end(&self) -> Option<()>
+        ensures { IsSome result ↔ (self.now ≡ []) }
+    {
+        self.rest.is_empty().then_some(())
     }
-    if line[from] == b'-' {
-        return Bytes {
-            count: 0,
-            read: line.len() - from == 1,
-        };
+
+    // The number behind a space. Where there is none, nothing is read.
+    pub fn number(&mut self) -> Option<i64>
+        ensures { Reads (number_at self.old) self.old result self.new }
+    {
+        let (number, rest) = number_at(self.rest)?;
+        self.rest = rest;
+        Some(number)
     }
-    pairs(line, from, out)
+
+    // The same of a number from 0 to a highest.
+    pub fn up_to(&mut self, most: usize) -> Option<usize>
+        ensures reads { Reads (up_to_at most self.old) self.old result self.new }
+        ensures bound { IfSome result (λ n. n ≤ most) }
+    {
+        let (number, rest) = number_at(self.rest)?;
+        let amount = usize::try_from(number).ok()?;
+        if most < amount {
+            return None;
+        }
+        self.rest = rest;
+        Some(amount)
+    }
+
+    // The same of a number that fits a signed 32-bit word.
+    pub fn word(&mut self) -> Option<i32>
+        ensures { Reads (word_at self.old) self.old result self.new }
+    {
+        let (number, rest) = number_at(self.rest)?;
+        let word = i32::try_from(number).ok()?;
+        self.rest = rest;
+        Some(word)
+    }
+
+    // So many words, one behind the other.
+    pub fn words<const N: usize>(&mut self) -> Option<[i32; N]>
+        ensures { Reads (words_at N self.old) self.old result self.new }
+    {
+        let mut ahead = Words { rest: self.rest };
+        let mut words = [0; N];
+        for word in &mut words {
+            *word = ahead.word()?;
+        }
+        self.rest = ahead.rest;
+        Some(words)
+    }
+
+    // The bytes behind a space, 64 at most, which are the last word of the line. Answers how many they are.
+    pub fn bytes(self, room: &mut [u8; 64]) -> Option<usize>
+        ensures { Took (hex_at self.entry room.old) result room.new }
+    {
+        let word = behind_space(self.rest)?;
+        if word == b"-".as_slice() {
+            Some(0)
+        } else {
+            pairs(word, room)
+        }
+    }
 }

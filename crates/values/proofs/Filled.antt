@@ -28,9 +28,6 @@ module _ (f : ℕ → ℤ) (n : ℕ) where
             (eq-or-lt_of_le (omega arith));
       }
 
-  pub none_filled : (vs : List ℤ) → length vs ≡ n → Filled f n 0 vs
-  none_filled vs e = record { size = e; there = λ j h. absurd (omega arith) }
-
   -- one place more, as `put_value` sets it
   pub one_more : (i : ℕ) (vs us : List ℤ) → i < n → us ≡ set vs i (f i) → Filled f n i vs → Filled f n (i + 1) us
   one_more i vs us h e k = subst (Filled f n (i + 1)) (sym e) (set-one i vs h k)

@@ -4,6 +4,7 @@ use native.Mathlib.Omega.{arith}
 use mathlib.Core.Path.{◌≡◌, refl, sym, ap, ◌∙◌, subst}
 use mathlib.Core.Logic.{◌⊎◌, inl, inr, ⊎_elim}
 use mathlib.Core.List.{List}
+use Rattle.std.proofs.Common.{Option, Some, None}
 use lib.ListN.{length, get_or, set}
 use lib.Seq.{get_or-set_same, get_or-set_other}
 use Rattle.status.specs.declared.Status.{Status}
@@ -12,10 +13,10 @@ use Rattle.points.specs.Reach.{Leads, Reach}
 use Rattle.points.specs.declared.Point.{Point}
 use Rattle.points.specs.declared.Way.{Way}
 use Rattle.points.specs.declared.Way.TheVariants.{Bad}
-use Rattle.walking.specs.Walk.{Has, Walk, walk, Held, held, mask_at, depths_at, joined, reached, top, taken, gone, Room}
-use Rattle.walking.specs.declared.Found.{Found}
-use Rattle.walking.proofs.Depths.{has-none, or_left, or_right, or_cases}
-use Rattle.walking.proofs.Masks.{set_cases, inside, joined-low, more, reached-cases, reached-room, room_for, on-hand-room, gone-cases, taken-cases, top-filled, top_in, off-room}
+use Rattle.walking.specs.Walk.{Has, Walk, walk, Hand, Held, held, mask_at, depths_at, joined, reached, top, taken, gone, FoundBy, Room}
+use Rattle.walking.specs.declared.found.Found.{Found}
+use Rattle.walking.proofs.Depths.{or_left, or_right, or_cases}
+use Rattle.walking.proofs.Masks.{set_cases, joined-low, more, reached-cases, reached-room, room_for, on-hand-room, gone-cases, taken-cases, top-filled, top_in, off-room}
 
 -- the walk has reached the point
 abbrev pub At : Walk → ℕ → ℕ → Type 0
@@ -25,33 +26,40 @@ abbrev pub Grown : Walk → Walk → Type 0
 Grown x y = (b d : ℕ) → At x b d → At y b d
 
 -- the points that it leads to are reached too, and what was found is not after it if it is bad
-pub record Closed (way : Point → Way) (f : Found) (x : Walk) (b d : ℕ) : Type 0 where
+pub record Closed (way : Point → Way) (f : Option Found) (x : Walk) (b d : ℕ) : Type 0 where
   pub ends : (q : Point) → Leads (way (point b d)) q → At x q.address q.depth
-  pub low : (t : Status) → way (point b d) ≡ Bad t → f.number ≤ b * 9 + d
+  pub low : (t : Status) → way (point b d) ≡ Bad t → FoundBy f (b * 9 + d)
 
 -- what holds between the acts: the points for which E holds are still to be closed
-pub record Kept (way : Point → Way) (f : Found) (E : ℕ → ℕ → Type 0) (x : Walk) : Type 0 where
+pub record Kept (way : Point → Way) (f : Option Found) (E : ℕ → ℕ → Type 0) (x : Walk) : Type 0 where
   pub room : Room x
   pub stands : (b : ℕ) → 512 ≤ mask_at x b → (k : ℕ) × (k < x.n) × (get_or x.stack k 0 ≡ b)
   pub sound : (b d : ℕ) → At x b d → Reach way (point b d)
   pub done : (b d : ℕ) → At x b d → (512 ≤ mask_at x b) ⊎ (E b d ⊎ Closed way f x b d)
 
 -- .. and those in hand
-abbrev pub With : (ℕ → ℕ → Type 0) → ℕ → ℕ → ℕ → ℕ → Type 0
-With E a m b d = E b d ⊎ ((b ≡ a) × Has m d)
+abbrev pub InHand : Option Hand → ℕ → ℕ → Type 0
+InHand None b d = ⊥
+InHand (Some h) b d = (b ≡ h.address) × Has h.depths d
 
-pub record Holds (way : Point → Way) (f : Found) (E : ℕ → ℕ → Type 0) (y : Held) : Type 0 where
-  pub kept : Kept way f (With E y.address y.depths) y.walk
-  pub here : (d : ℕ) → Has y.depths d → At y.walk y.address d
-  pub small : y.depths < 512
-  pub inside : (y.address ≡ 1025 → ⊥) → (y.address ≤ 1024) × (0 < y.depths)
-  pub idle : y.address ≡ 1025 → (y.depths ≡ 0) × (y.walk.n ≡ 0)
+abbrev pub With : (ℕ → ℕ → Type 0) → Option Hand → ℕ → ℕ → Type 0
+With E h b d = E b d ⊎ InHand h b d
+
+-- what is in hand is an address with depths; nothing is only where nothing waits
+abbrev pub Ready : ℕ → Option Hand → Type 0
+Ready n None = n ≡ 0
+Ready n (Some h) = (h.address ≤ 1024) × (0 < h.depths) × (h.depths < 512)
+
+pub record Holds (way : Point → Way) (f : Option Found) (E : ℕ → ℕ → Type 0) (y : Held) : Type 0 where
+  pub kept : Kept way f (With E y.hand) y.walk
+  pub here : (b d : ℕ) → InHand y.hand b d → At y.walk b d
+  pub ready : Ready y.walk.n y.hand
 
 module _ (way : Point → Way) where
-  pub closed_on : {f g : Found} {x y : Walk} {b d : ℕ} → g.number ≤ f.number → Grown x y → Closed way f x b d → Closed way g y b d
-  closed_on l g c = record { ends = λ q e. g _ _ (c.ends q e); low = λ t e. let k = c.low t e in omega arith }
+  pub closed_on : {f g : Option Found} {x y : Walk} {b d : ℕ} → ((i : ℕ) → FoundBy f i → FoundBy g i) → Grown x y → Closed way f x b d → Closed way g y b d
+  closed_on l g c = record { ends = λ q e. g _ _ (c.ends q e); low = λ t e. l _ (c.low t e) }
 
-  module _ (f : Found) (E : ℕ → ℕ → Type 0) where
+  module _ (f : Option Found) (E : ℕ → ℕ → Type 0) where
     -- depths stored at an address, none lost
     module _ (x : Walk) (a v : ℕ) (i : Kept way f E x) (h : a ≤ 1024) (up : (d : ℕ) → At x a d → Has (v % 512) d) (s : List ℕ) (n : ℕ) where
       in-masks : a < length x.masks
@@ -73,7 +81,7 @@ module _ (way : Point → Way) where
             done = λ b d. set_cases x.masks a b v
                 (λ u. Has (u % 512) d → (512 ≤ u) ⊎ (F b d ⊎ Closed way f (walk (set x.masks a v) s n) b d)) in-masks
                 (λ e k. ⊎_elim inl (λ w. inr (inl (subst (λ c. F c d) (sym e) w))) (at d k))
-                (λ _ k. ⊎_elim inl (λ w. inr (⊎_elim (λ z. inl (on b d z)) (λ c. inr (closed_on (omega arith) store-grown c)) w)) (i.done b d k));
+                (λ _ k. ⊎_elim inl (λ w. inr (⊎_elim (λ z. inl (on b d z)) (λ c. inr (closed_on (λ _ k. k) store-grown c)) w)) (i.done b d k));
           }
 
     module _ (x : Walk) (a m : ℕ) (i : Kept way f E x) (h : a ≤ 1024) (l : m < 512) (new : (d : ℕ) → Has m d → Reach way (point a d)) where
@@ -139,13 +147,11 @@ module _ (way : Point → Way) where
         let e : v % 512 ≡ v = omega arith in
         let q : a < length x.masks = omega (arith, i.room.masks) in
         record {
-          kept = stored-kept x a v i h up x.stack n (With E a v) r
+          kept = stored-kept x a v i h up x.stack n (With E (Some (record { address = a; depths = v }))) r
               (λ b. set_cases x.masks a b v (λ u. 512 ≤ u → (k : ℕ) × (k < n) × (get_or x.stack k 0 ≡ b)) q (λ _ w. absurd (omega arith)) (λ g w. st b w g))
               (λ d k. new d (subst (λ u. Has u d) e k)) (λ d k. inr (inr (refl, subst (λ u. Has u d) e k))) (λ b d w. inl w);
-          here = λ d k. rw (get_or-set_same x.masks a v 0 q) (subst (λ u. Has u d) (sym e) k);
-          small = l;
-          inside = λ _. (h, p);
-          idle = λ z. absurd (omega arith);
+          here = λ b d k. subst (λ c. At (walk (set x.masks a v) x.stack n) c d) (sym k.0) (rw (get_or-set_same x.masks a v 0 q) (subst (λ u. Has u d) (sym e) k.1));
+          ready = (h, p, l);
         }
 
     pub taken-holds : (x : Walk) → Kept way f E x → Holds way f E (taken x) × Grown x (taken x).walk
@@ -159,10 +165,8 @@ module _ (way : Point → Way) where
               sound = i.sound;
               done = λ b d k. ⊎_elim inl (λ w. inr (⊎_elim (λ e. inl (inl e)) inr w)) (i.done b d k);
             };
-            here = λ d k. absurd (has-none d k);
-            small = omega arith;
-            inside = λ g. absurd (g refl);
-            idle = λ _. (refl, z);
+            here = λ b d k. absurd k;
+            ready = z;
           },
           λ b d k. k,
         ))

@@ -5,13 +5,15 @@ use native.Mathlib.Decide.{dec_lt, ℕ_discrete}
 use mathlib.Core.Path.{◌≡◌, ap, ◌∙◌}
 use mathlib.Core.Logic.{◌⊎◌, ⊎_elim}
 use mathlib.Core.List.{List, [], ◌∷◌}
+use Rattle.std.proofs.Common.{Option, Some, None}
+use lib.Bits.{bit_or}
 use lib.Dec.{eqb, ltb}
 use lib.ListN.{length, get_or, set, length-set, get_or-eq_default}
 use lib.Seq.{get_or-set_same, get_or-set_other}
 use borrow.Author.Tests.{eqb-true, eqb-false, ltb-true, ltb-false}
 use Rattle.words.specs.Word.{pick}
 use Rattle.words.proofs.Bools.{either}
-use Rattle.walking.specs.Walk.{Walk, walk, Held, held, mask_at, depths_at, joined, reached, top, taken, gone, total, Room}
+use Rattle.walking.specs.Walk.{Walk, walk, Hand, Held, held, idle, mask_at, depths_at, joined, reached, top, taken, gone, total, Room}
 use Rattle.walking.proofs.Depths.{or-grows, or-low}
 
 -- ---- sums
@@ -77,8 +79,23 @@ n-low x r = omega (arith, r.counted, r.masks, total-le x.masks r.small)
 abbrev pub left : Walk → ℕ
 left x = total (λ u. 511 - u % 512) x.masks + x.n
 
+abbrev pub count : Option Hand → ℕ
+count None = 0
+count (Some h) = 1
+
 abbrev pub left_held : Held → ℕ
-left_held y = left y.walk + (y.depths - (y.depths - 1))
+left_held y = left y.walk + count y.hand
+
+-- ---- the mask of an address that does not wait is its depths
+module _ (k m : ℕ) (l : k < 512) where
+  pub unmasked : bit_or k m ≡ bit_or (k % 512) m
+  unmasked = let e : k ≡ k % 512 = omega arith in ap (λ v. bit_or v m) e
+
+  pub new-joined : (bit_or k m ≡ k → ⊥) → bit_or (k % 512) m ≡ k % 512 → ⊥
+  new-joined n e = n (omega (arith, unmasked))
+
+  pub old-joined : bit_or k m ≡ k → bit_or (k % 512) m ≡ k % 512
+  old-joined e = omega (arith, unmasked)
 
 -- ---- an address is reached
 module _ (x : Walk) (a m : ℕ) where
@@ -155,10 +172,10 @@ module _ (x : Walk) where
   abbrev pub off : Held
   off = held (walk (set x.masks (top x) (depths_at x (top x))) x.stack (x.n - 1)) (top x) (depths_at x (top x))
 
-  pub taken-cases : (P : Held → Type 0) → (x.n ≡ 0 → P (held x 1025 0)) → (0 < x.n → P off) → P (taken x)
+  pub taken-cases : (P : Held → Type 0) → (x.n ≡ 0 → P (idle x)) → (0 < x.n → P off) → P (taken x)
   unfolding taken
   taken-cases P f g =
-      either P (eqb x.n 0) (held x 1025 0) off (λ t. f (eqb-true _ _ t)) (λ t. g (omega (arith, eqb-false x.n 0 t)))
+      either P (eqb x.n 0) (idle x) off (λ t. f (eqb-true _ _ t)) (λ t. g (omega (arith, eqb-false x.n 0 t)))
 
   module _ (r : Room x) where
     pub top-filled : 0 < x.n → 0 < depths_at x (top x)

@@ -1,9 +1,9 @@
 -- Of all bad points that are reached one is the lowest, and the walk's promise leaves one answer. Assumes nothing.
 use Prim.Native.Nat.{ℕ}
 use native.Mathlib.Omega.{arith}
-use mathlib.Core.Path.{◌≡◌, sym, ap, ◌∙◌}
-use mathlib.Core.Logic.{⊎_elim}
+use mathlib.Core.Path.{◌≡◌, refl, sym, ap, ◌∙◌}
 use mathlib.Core.List.{List}
+use Rattle.std.proofs.Common.{Option, Some, None}
 use Rattle.status.specs.declared.Status.{Status}
 use Rattle.points.specs.Points.{number_of, point_at}
 use Rattle.points.specs.Reach.{Lowest}
@@ -14,7 +14,7 @@ use Rattle.leading.specs.Leading.{way_at}
 use Rattle.leading.proofs.Ways.{reached_in}
 use Rattle.walking.specs.Found.{FoundIn}
 use Rattle.walking.specs.Laws.{Laws}
-use Rattle.walking.specs.declared.Found.{Found}
+use Rattle.walking.specs.declared.found.Found.{Found}
 
 module _ (program : List ℕ) {p q : Point} {s t : Status} (a : Lowest (way_at program) p s) (b : Lowest (way_at program) q t) where
   pub same_point : p ≡ q
@@ -35,19 +35,18 @@ module _ (program : List ℕ) {p q : Point} {s t : Status} (a : Lowest (way_at p
       let h : way_at program q ≡ Bad t = b.bad in
       cc
 
-module _ (program : List ℕ) (f g : Found) where
-  same-found : Lowest (way_at program) (point_at f.number) f.status → Lowest (way_at program) (point_at g.number) g.status → f ≡ g
-  same-found a b =
+module _ (program : List ℕ) where
+  same-found : (f g : Found) → Lowest (way_at program) (point_at f.number) f.status → Lowest (way_at program) (point_at g.number) g.status → f ≡ g
+  same-found f g a b =
       let n : f.number ≡ g.number = sym (number_point f.number) ∙ ap number_of (same_point program a b) ∙ number_point g.number in
       let t : f.status ≡ g.status = same-status program a b in
       λ i. record { number = n i; status = t i }
 
-  one_found : FoundIn (way_at program) f → FoundIn (way_at program) g → f ≡ g
-  one_found h k =
-      ⊎_elim
-      (λ a. ⊎_elim (λ b. a.0 ∙ sym b.0) (λ b. absurd (a.1.none _ _ b.1.reached b.1.bad)) k)
-      (λ a. ⊎_elim (λ b. absurd (b.1.none _ _ a.1.reached a.1.bad)) (λ b. same-found a.1 b.1) k)
-      h
+  one_found : (f g : Option Found) → FoundIn (way_at program) f → FoundIn (way_at program) g → f ≡ g
+  one_found None None h k = refl
+  one_found None (Some g) h k = absurd (h.none _ _ k.1.reached k.1.bad)
+  one_found (Some f) None h k = absurd (k.none _ _ h.1.reached h.1.bad)
+  one_found (Some f) (Some g) h k = ap Some (same-found f g h.1 k.1)
 
 pub laws : Laws
 laws = record { one_found = one_found }

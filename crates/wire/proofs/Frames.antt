@@ -1,6 +1,6 @@
 -- The laws of frames. Assumes nothing.
 use mathlib.Core.Path.{◌≡◌, refl, sym, ap, ◌∙◌}
-use mathlib.Core.Bool.{Bool, true, false, ◌&&◌, false≢true}
+use mathlib.Core.Bool.{Bool, true, false}
 use mathlib.Core.List.{List, [], ◌∷◌}
 use Prim.Native.Nat.{ℕ, zero, suc, ◌+◌, ◌%◌, ◌<◌}
 use native.Mathlib.Nat.{add_comm, add-mod-mod}
@@ -15,7 +15,7 @@ use mir.Val.{SFits}
 use Rattle.words.specs.declared.Four.{Four}
 use Rattle.words.specs.Bytes.{four_of, four_at, word_at}
 use Rattle.words.specs.Laws.{AllBytes}
-use Rattle.words.proofs.Bools.{same_test}
+use Rattle.words.proofs.Bools.{each, same_test}
 use Rattle.words.proofs.Trips.{split_join, join_split}
 use Rattle.checksum.specs.Checksum.{total, checksum, right_frame}
 use Rattle.wire.specs.Frame.{seven, summed, frame, written_status}
@@ -34,14 +34,10 @@ unfolding frame
 made_value a b c d v f = split_join v f
 
 -- what a right frame is
-and-true : (a b : Bool) → a && b ≡ true → (a ≡ true) × (b ≡ true)
-and-true true b h = (refl, h)
-and-true false b h = absurd (false≢true h)
-
 pub right-parts : (s : List ℕ) → right_frame s ≡ true → (length s ≡ 9) × (checksum (take 8 s) ≡ get_or s 8 0)
 unfolding right_frame
 right-parts s h =
-    let p = and-true (eqb (length s) 9) (eqb (checksum (take 8 s)) (get_or s 8 0)) h in
+    let p = each (eqb (length s) 9) (eqb (checksum (take 8 s)) (get_or s 8 0)) h in
     (eqb-true (length s) 9 p.0, eqb-true (checksum (take 8 s)) (get_or s 8 0) p.1)
 
 -- a list of the right length is right where its sum is

@@ -6,13 +6,13 @@ use Rattle.board_events.proofs.put_tick.Goals as goal
 
 pub returns : goal.returns
 returns c =
-    let k = c.set_count.ensures in
+    let k = c.set.ensures in
     let l = c.args.image.now in
-    let t = c.ticked-later in
+    let t = c.ticked in
     record {
       makes =
           k.makes
           ∙ ticked-so (registers_of l) t.result
-          (t.ensures ∙ simp (c.timed.ensures, c.count.ensures, c.armed.ensures));
+          (t.ensures ∙ simp (c.get.ensures, c.get-2.ensures, c.get-3.ensures));
       stays = k.stays;
     }

@@ -25,7 +25,7 @@ pub returns-then-not-in_range-2 : goal.returns-then-not-in_range-2
 unfolding sample_status
 returns-then-not-in_range-2 c =
     let y = c.in_range-2 in
-    let s = c.sample_of-s in
+    let s = c.sample_of in
     let x = c.in_range in
     let a = c.args in
     let l = a.image.now in
@@ -38,7 +38,7 @@ pub returns : goal.returns
 unfolding sample_status
 returns c =
     let y = c.in_range-2 in
-    let s = c.sample_of-s in
+    let s = c.sample_of in
     let x = c.in_range in
     let a = c.args in
     let l = a.image.now in

@@ -13,7 +13,7 @@ overflow_add-result-else-bank-eq2 c = let h = place-low (globals ++ read_only) c
 
 pub returns-then-bank-eq2 : goal.returns-then-bank-eq2
 unfolding bank_place
-returns-then-bank-eq2 c = simp (c.wide.ensures, eq-eqb _ _ c.if-bank-eq2.true, parameter_rows)
+returns-then-bank-eq2 c = simp (c.from.ensures, eq-eqb _ _ c.if-bank-eq2.true, parameter_rows)
 
 pub returns-else-bank-eq2 : goal.returns-else-bank-eq2
 unfolding bank_place

@@ -1,6 +1,9 @@
--- `streams::fill`: no more is held than the room has.
-use Rattle.std.proofs.Common.{length, ◌≤◌}
+-- `streams::fill`: no more is held than the room has, and each turn that goes on holds more.
+use Rattle.std.proofs.Common.{length, ◌≤◌, ◌-◌}
 use Rattle.streams.proofs.fill.Given as goal
 
-abbrev pub invariant-loop : goal.invariant-loop
-invariant-loop g l = l.held ≤ length l.room
+abbrev pub invariant-loop-held : goal.invariant-loop-held
+invariant-loop-held g l = l.held ≤ length l.room
+
+abbrev pub decreases-loop-held : goal.decreases-loop-held
+decreases-loop-held g l = length l.room - l.held

@@ -24,4 +24,4 @@ returns c =
     let fits : SFits w32 v.result.v = search rules in
     one-filled x.cells.now x.place v.result x.image.now _ c.requires.1
     (cell ∙ user-powered x.cells.now n small (rw cell at fits) ∙ ap (λ (k : ℕ). powered_at rows x.cells.now k) there)
-    c.set_value.ensures
+    c.set_at.ensures

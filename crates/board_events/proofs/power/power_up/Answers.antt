@@ -33,6 +33,6 @@ returns c =
     let k = c.clear in
     let e : is_parameter_store s ≡ true = sym x.ensures ∙ not-false x.result c.if-not-is_parameter_store.false-raw in
     let f = u.ensures.fills (p.ensures.fills (none_yet s k.new.image k.ensures)) in
-    let m = c.set_running.new.image in
+    let m = c.set.new.image in
     done (power_status s) (powered s) a.image.now m (simp e)
-    (powered-so s u.new.image m q.result f (q.ensures ∙ ap (λ (w : Word). same_w w.v (pos 1)) c.value.ensures) c.set_running.ensures)
+    (powered-so s u.new.image m q.result f (q.ensures ∙ ap (λ (w : Word). same_w w.v (pos 1)) c.get_at.ensures) c.set.ensures)

@@ -14,13 +14,13 @@ returns c =
     let f = c.raised_flag-eal in
     let g = c.raised_flag-edv in
     let h = c.raised_flag-epo in
-    let d = then _ _ _ _ _ (then _ _ _ _ _ c.set_eal.ensures c.set_edv.ensures) c.set_epo.ensures in
+    let d = then _ _ _ _ _ (then _ _ _ _ _ c.set.ensures c.set-2.ensures) c.set-3.ensures in
     record {
       makes =
           d.makes
           ∙ alarmed-so (registers_of x.image.now) (signals_of x.fields.now) f.result g.result h.result
-          (f.ensures ∙ simp (a, c.eal.ensures))
-          (g.ensures ∙ simp (a, c.edv.ensures))
-          (h.ensures ∙ simp (a, c.epo.ensures));
+          (f.ensures ∙ simp (a, c.get.ensures))
+          (g.ensures ∙ simp (a, c.get-2.ensures))
+          (h.ensures ∙ simp (a, c.get-3.ensures));
       stays = d.stays;
     }

@@ -5,17 +5,13 @@ use Rattle.machine.proofs.Keeps.{same, by}
 use Rattle.cmd_turns.specs.Deed.{doing}
 use Rattle.machine.proofs.deeds.apply.Goals as goal
 
-pub returns-in-Refused : goal.returns-in-Refused
-unfolding doing
-returns-in-Refused c = record { makes = simp (c.goes.ensures, c.in-Refused.is, lt-ltb _ _ c.requires); kept = same _; stays = λ t. t }
-
 pub returns-in-Number : goal.returns-in-Number
 unfolding doing
-returns-in-Number c = record { makes = simp (c.goes-in-Number.ensures, c.in-Number.is, lt-ltb _ _ c.requires); kept = same _; stays = λ t. t }
+returns-in-Number c = record { makes = simp (c.goes.ensures, c.in-Number.is, lt-ltb _ _ c.requires); kept = same _; stays = λ t. t }
 
 pub returns-in-Numbers : goal.returns-in-Numbers
 unfolding doing
-returns-in-Numbers c = record { makes = simp (c.goes-in-Numbers.ensures, c.in-Numbers.is, lt-ltb _ _ c.requires, c.set_x.ensures.makes); kept = by _ _ _ (λ r. refl) (λ r. refl) c.set_x.ensures; stays = c.set_x.ensures.stays }
+returns-in-Numbers c = record { makes = simp (c.goes-in-Numbers.ensures, c.in-Numbers.is, lt-ltb _ _ c.requires, c.set.ensures.makes); kept = by _ _ _ (λ r. refl) (λ r. refl) c.set.ensures; stays = c.set.ensures.stays }
 
 pub returns-in-Jump : goal.returns-in-Jump
 unfolding doing
@@ -31,15 +27,15 @@ returns-in-Back c = record { makes = simp (c.goes-in-Back.ensures, c.in-Back.is,
 
 pub returns-in-Set : goal.returns-in-Set
 unfolding doing
-returns-in-Set c = record { makes = simp (c.goes-in-Set.ensures, c.in-Set.is, lt-ltb _ _ c.requires, c.set_value.ensures.makes); kept = by _ _ _ (λ r. refl) (λ r. refl) c.set_value.ensures; stays = c.set_value.ensures.stays }
+returns-in-Set c = record { makes = simp (c.goes-in-Set.ensures, c.in-Set.is, lt-ltb _ _ c.requires, c.set_at.ensures.makes); kept = by _ _ _ (λ r. refl) (λ r. refl) c.set_at.ensures; stays = c.set_at.ensures.stays }
 
 pub returns-in-Output : goal.returns-in-Output
 unfolding doing
-returns-in-Output c = record { makes = simp (c.goes-in-Output.ensures, c.in-Output.is, lt-ltb _ _ c.requires, c.set_output.ensures.makes); kept = by _ _ _ (λ r. refl) (λ r. refl) c.set_output.ensures; stays = c.set_output.ensures.stays }
+returns-in-Output c = record { makes = simp (c.goes-in-Output.ensures, c.in-Output.is, lt-ltb _ _ c.requires, c.set_at-in-Output.ensures.makes); kept = by _ _ _ (λ r. refl) (λ r. refl) c.set_at-in-Output.ensures; stays = c.set_at-in-Output.ensures.stays }
 
 pub returns-in-Last : goal.returns-in-Last
 unfolding doing
-returns-in-Last c = record { makes = simp (c.goes-in-Last.ensures, c.in-Last.is, lt-ltb _ _ c.requires, c.set_last.ensures.makes); kept = by _ _ _ (λ r. refl) (λ r. refl) c.set_last.ensures; stays = c.set_last.ensures.stays }
+returns-in-Last c = record { makes = simp (c.goes-in-Last.ensures, c.in-Last.is, lt-ltb _ _ c.requires, c.set-in-Last.ensures.makes); kept = by _ _ _ (λ r. refl) (λ r. refl) c.set-in-Last.ensures; stays = c.set-in-Last.ensures.stays }
 
 pub returns-in-Clear : goal.returns-in-Clear
 unfolding doing
@@ -59,7 +55,7 @@ returns-in-Store c = record { makes = simp (c.goes-in-Store.ensures, c.in-Store.
 
 pub returns-in-Global : goal.returns-in-Global
 unfolding doing
-returns-in-Global c = record { makes = simp (c.goes-in-Global.ensures, c.in-Global.is, lt-ltb _ _ c.requires, c.put_cell-in-Global.ensures, c.cell_of.ensures, c.set_value-in-Global.ensures.makes); kept = by _ _ _ (λ r. refl) (λ r. refl) c.set_value-in-Global.ensures; stays = c.set_value-in-Global.ensures.stays }
+returns-in-Global c = record { makes = simp (c.goes-in-Global.ensures, c.in-Global.is, lt-ltb _ _ c.requires, c.put_cell-in-Global.ensures, c.cell_of.ensures, c.set_at-in-Global.ensures.makes); kept = by _ _ _ (λ r. refl) (λ r. refl) c.set_at-in-Global.ensures; stays = c.set_at-in-Global.ensures.stays }
 
 pub returns-in-Held : goal.returns-in-Held
 unfolding doing
@@ -79,7 +75,7 @@ returns-in-TimedOut c = record { makes = simp (c.goes-in-TimedOut.ensures, c.in-
 
 pub returns-in-Dropped : goal.returns-in-Dropped
 unfolding doing
-returns-in-Dropped c = record { makes = simp (c.goes-in-Dropped.ensures, c.in-Dropped.is, lt-ltb _ _ c.requires, c.drop_wait-in-Dropped.ensures.makes); kept = by _ _ _ (λ r. refl) (λ r. refl) c.drop_wait-in-Dropped.ensures; stays = c.drop_wait-in-Dropped.ensures.stays }
+returns-in-Dropped c = record { makes = simp (c.goes-in-Dropped.ensures, c.in-Dropped.is, c.from.ensures, lt-ltb _ _ c.requires, c.drop_wait-in-Dropped.ensures.makes); kept = by _ _ _ (λ r. refl) (λ r. refl) c.drop_wait-in-Dropped.ensures; stays = c.drop_wait-in-Dropped.ensures.stays }
 
 pub returns-in-Halt : goal.returns-in-Halt
 unfolding doing
@@ -91,4 +87,4 @@ returns-in-Nothing c = record { makes = simp (c.stops-in-Nothing.ensures, c.in-N
 
 pub returns-in-User : goal.returns-in-User
 unfolding doing
-returns-in-User c = record { makes = simp (c.goes-in-User.ensures, c.in-User.is, lt-ltb _ _ c.requires, c.set_value-in-User.ensures.makes); kept = by _ _ _ (λ r. refl) (λ r. refl) c.set_value-in-User.ensures; stays = c.set_value-in-User.ensures.stays }
+returns-in-User c = record { makes = simp (c.goes-in-User.ensures, c.in-User.is, lt-ltb _ _ c.requires, c.set_at-in-User.ensures.makes); kept = by _ _ _ (λ r. refl) (λ r. refl) c.set_at-in-User.ensures; stays = c.set_at-in-User.ensures.stays }

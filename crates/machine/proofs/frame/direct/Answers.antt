@@ -1,11 +1,9 @@
 -- `machine::frame::direct`.
 use mathlib.Core.Path.{refl, sym, ◌∙◌}
-use mathlib.Core.Bool.{true, false}
 use borrow.Author.Tests.{eqb-true}
 use lib.Dec.{eqb}
 use Rattle.words.proofs.Bools.{each}
 use Rattle.wire.specs.Frame.{command_at}
-use Rattle.judge.specs.Judge.{is_flow}
 use Rattle.machine.proofs.Framed.{behind}
 use Rattle.machine.proofs.Shown.{flow-refused}
 use Rattle.machine.proofs.frame.direct.Goals as goal

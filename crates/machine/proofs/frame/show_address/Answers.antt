@@ -1,17 +1,15 @@
 -- `machine::frame::show_address`.
-use mathlib.Core.Path.{sym, ◌∙◌}
-use borrow.Author.Tests.{not-true, not-false}
+use mathlib.Core.Path.{refl}
+use Rattle.cmd_turns.proofs.Decides.{refusal-not-done}
 use Rattle.machine.proofs.Shown.{shown, not-shown}
 use Rattle.machine.proofs.frame.show_address.Goals as goal
 
-pub returns-then-not-is_done : goal.returns-then-not-is_done
-returns-then-not-is_done c n k m =
-    let g = c.ggp-judged in
+pub returns-in-Err : goal.returns-in-Err
+returns-in-Err c n k m =
     let x = c.args in
-    not-shown x.image.now x.c n k m g.result g.ensures (sym c.is_done.ensures ∙ not-true c.is_done.result c.if-not-is_done.true-raw) c.refused.result c.refused.ensures
+    not-shown x.image.now x.c n k m _ c.in-Err.ensures (refusal-not-done _) c.refused.result c.refused.ensures
 
-pub returns : goal.returns
-returns c n k m =
-    let g = c.ggp-judged in
+pub returns-in-Ok : goal.returns-in-Ok
+returns-in-Ok c n k m =
     let x = c.args in
-    shown x.image.now x.c n k m g.result g.ensures (sym c.is_done.ensures ∙ not-false c.is_done.result c.if-not-is_done.false-raw) c.address.result c.address.ensures c.of_bits.result c.of_bits.ensures
+    shown x.image.now x.c n k m _ c.in-Ok.ensures refl c.get.result c.get.ensures c.of_bits.result c.of_bits.ensures

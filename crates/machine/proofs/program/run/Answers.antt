@@ -16,14 +16,14 @@ use Rattle.machine.proofs.program.run.Goals as goal
 pub returns-then-program-ne7168 : goal.returns-then-program-ne7168
 returns-then-program-ne7168 c = (λ h. absurd (c.if-program-ne7168.true h), λ _. (c.none_made.ensures, record { image = refl; store = refl }))
 
-pub returns-then-not-running : goal.returns-then-not-running
-returns-then-not-running c =
+pub returns-then-not-get : goal.returns-then-not-get
+returns-then-not-get c =
     let x = c.args in
-    let e = sym (not-running x.program.now x.budget (registers_of x.image.now) x.store.now (sym c.running.ensures ∙ not-true c.running.result c.if-not-running.true-raw)) in (
+    let e = sym (not-running x.program.now x.budget (registers_of x.image.now) x.store.now (sym c.get.ensures ∙ not-true c.get.result c.if-not-get.true-raw)) in (
       λ h.
           record {
-            status = ap (λ (r : Made). r.status) c.none_made-then-not-running.ensures ∙ ap (λ (t : board.Steps). t.status) e;
-            count = ap (λ (r : Made). r.steps) c.none_made-then-not-running.ensures ∙ ap (λ (t : board.Steps). t.steps) e;
+            status = ap (λ (r : Made). r.status) c.none_made-then-not-get.ensures ∙ ap (λ (t : board.Steps). t.status) e;
+            count = ap (λ (r : Made). r.steps) c.none_made-then-not-get.ensures ∙ ap (λ (t : board.Steps). t.steps) e;
             makes = ap (λ (t : board.Steps). t.registers) e;
             store = ap (λ (t : board.Steps). t.store) e;
             stays = λ t. t;
@@ -56,7 +56,7 @@ pub returns : goal.returns
 returns c =
     let w = c.walk-gone in
     let x = c.args in
-    let on = sym c.running.ensures ∙ not-false c.running.result c.if-not-running.false-raw in
+    let on = sym c.get.ensures ∙ not-false c.get.result c.if-not-get.false-raw in
     let some : 0 < x.budget = omega (arith, c.if-budget-eq0.false) in (
       λ h.
           let e = sym (steps-are x.program.now h x.budget some (registers_of x.image.now) x.store.now on) in

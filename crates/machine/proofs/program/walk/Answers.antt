@@ -23,7 +23,7 @@ returns c =
     let e =
     c.go-gone.ensures.makes
     ∙ ap (λ (q : Registers). going p 0 1024 x.budget (turn q x.store.now Done Goes))
-    (as-it-is r1 c.accumulator-from.result c.address-address.result c.accumulator-from.ensures c.address-address.ensures ∙ c.begin.ensures.makes) in
+    (as-it-is r1 c.get-from.result c.get-address.result c.get-from.ensures c.get-address.ensures ∙ c.begin.ensures.makes) in
     record {
       makes = c.finish.ensures.makes ∙ ap (λ (w : Walk). ended w.turn.left w.turn.registers) e;
       store = ap (λ (w : Walk). w.turn.store) e;

@@ -24,13 +24,13 @@ nothing e r m j = rw j
 pub returns-then-number-eq23 : goal.returns-then-number-eq23
 returns-then-number-eq23 c =
     let r = seen c.args.accumulator c.args.address (registers_of c.args.image.now) in
-    c.csub.ensures (registers_of c.args.image.now) (sym c.depth-depth.ensures) c.args.accumulator c.args.address c.args.store.now
+    c.csub.ensures (registers_of c.args.image.now) (sym c.get-depth.ensures) c.args.accumulator c.args.address c.args.store.now
     ∙ ap (λ (e : Command). turned e r c.args.store.now) (told 23 c.command_in-then-number-eq23.result (command_at c.args.seven.now 0) c.command_in-then-number-eq23.ensures (sym c.requires.0 ∙ c.if-number-eq23.true))
 
 pub returns-then-number-eq24 : goal.returns-then-number-eq24
 returns-then-number-eq24 c =
     let r = seen c.args.accumulator c.args.address (registers_of c.args.image.now) in
-    c.rsub.ensures (command_at c.args.seven.now 0) (registers_of c.args.image.now) (sym c.depth-depth.ensures) c.args.accumulator c.args.address c.args.store.now
+    c.rsub.ensures (command_at c.args.seven.now 0) (registers_of c.args.image.now) (sym c.get-depth.ensures) c.args.accumulator c.args.address c.args.store.now
     ∙ ap (λ (e : Command). turned e r c.args.store.now) (told 24 (command_at c.args.seven.now 0) (command_at c.args.seven.now 0) refl (sym c.requires.0 ∙ c.if-number-eq24.true))
 
 pub returns-in-1 : goal.returns-in-1

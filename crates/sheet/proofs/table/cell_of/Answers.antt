@@ -10,15 +10,15 @@ use Rattle.sheet.proofs.Lines.{line-cell}
 use Rattle.sheet.proofs.Cells.{user-cell, past-cell}
 use Rattle.sheet.proofs.table.cell_of.Goals as goal
 
-pub returns-then-place-lt47 : goal.returns-then-place-lt47
+pub returns-then-place-lt-LISTED : goal.returns-then-place-lt-LISTED
 unfolding lines rows parameters axis globals rwe_rows rw_rows r_rows
-returns-then-place-lt47 c =
+returns-then-place-lt-LISTED c =
     let i = c.args.place in
-    c.wide.ensures ∙ ap (λ (l : Line). l.6) c.line_at-line.ensures
-    ∙ line-cell 0 parameters (replicate 56 user_row) i c.if-place-lt47.true ∙ zero-add (cell_of rows i)
+    c.from.ensures ∙ ap (λ (l : Line). l.6) c.line_at.ensures
+    ∙ line-cell 0 parameters (replicate 56 user_row) i c.if-place-lt-LISTED.true ∙ zero-add (cell_of rows i)
 
-pub returns-then-place-lt103 : goal.returns-then-place-lt103
-returns-then-place-lt103 c = user-cell c.args.place c.if-place-lt47.false c.if-place-lt103.true
+pub returns-then-place-lt-VALUES : goal.returns-then-place-lt-VALUES
+returns-then-place-lt-VALUES c = user-cell c.args.place c.if-place-lt-LISTED.false c.if-place-lt-VALUES.true
 
-pub returns-else-place-lt103 : goal.returns-else-place-lt103
-returns-else-place-lt103 c = past-cell c.args.place c.if-place-lt103.false
+pub returns-else-place-lt-VALUES : goal.returns-else-place-lt-VALUES
+returns-else-place-lt-VALUES c = past-cell c.args.place c.if-place-lt-VALUES.false

@@ -1,36 +1,15 @@
 -- `text::scan::number_at`.
-use Prim.Native.Nat.{◌+◌}
-use Rattle.text.specs.Numbers.{fitting}
-use Rattle.text.specs.declared.scan.Spelt.{Spelt}
-use mathlib.Core.Bool.{true, false}
-use mathlib.Core.Path.{sym, ap, ◌∙◌}
-use Rattle.text.proofs.Reading.{no_word, no_byte, with-minus, with_none}
+use Rattle.std.proofs.Common.{◌∙◌}
+use Rattle.text.proofs.Reading.{no_word, one_word, with-minus, with-none}
 use Rattle.text.proofs.scan.number_at.Goals as goal
 
-pub returns-then-from-eq0 : goal.returns-then-from-eq0
-returns-then-from-eq0 c =
-    let x = c.args in
-    c.nothing.ensures ∙ no_word x.line.now x.at (sym c.behind_space-from.ensures ∙ c.if-from-eq0.true)
+pub returns-in_err-word : goal.returns-in_err-word
+returns-in_err-word c = rw c.from_residual.ensures (no_word _ c.in_err-word.ensures)
 
-pub returns-then-line-from : goal.returns-then-line-from
-returns-then-line-from c =
-    let x = c.args in
-    c.nothing-then-line-from.ensures
-    ∙ no_byte x.line.now x.at c.behind_space-from.result (sym c.behind_space-from.ensures)
-    c.if-from-eq0.false c.if-line-from.true
+pub returns-in-Some : goal.returns-in-Some
+returns-in-Some c =
+    let p = c.in-Some.ensures.cases in
+    one_word _ _ _ c.in_ok-word.ensures (c.number_from.ensures ∙ with-minus c.in_ok-word.word.now _ p.0 p.1)
 
-pub returns-then-line-from-eq45 : goal.returns-then-line-from-eq45
-returns-then-line-from-eq45 c =
-    let x = c.args in
-    let from = c.behind_space-from.result in
-    c.fitting.ensures
-    ∙ ap (λ (s : Spelt). fitting true (from + 1) s.size s.next) c.digits.ensures
-    ∙ with-minus x.line.now x.at from (sym c.behind_space-from.ensures) c.if-from-eq0.false c.if-line-from-eq45.true
-
-pub returns : goal.returns
-returns c =
-    let x = c.args in
-    let from = c.behind_space-from.result in
-    c.fitting-2.ensures
-    ∙ ap (λ (s : Spelt). fitting false from s.size s.next) c.digits-2.ensures
-    ∙ with_none x.line.now x.at from (sym c.behind_space-from.ensures) c.if-from-eq0.false c.if-line-from-eq45.false
+pub returns-in-None : goal.returns-in-None
+returns-in-None c = one_word _ _ _ c.in_ok-word.ensures (c.number_from-in-None.ensures ∙ with-none c.in_ok-word.word.now c.in-None.ensures.cases)

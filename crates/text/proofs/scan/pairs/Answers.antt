@@ -1,62 +1,51 @@
--- `text::scan::pairs`: The loop's invariant: the pairs from here on, with the bytes so far, make what all make.
-use Prim.Native.Nat.{ℕ, ◌+◌, ◌*◌, ◌≤◌, ◌<◌}
-use Rattle.text.specs.Hex.{digit_value, pairs_of}
-use borrow.Author.Rules.{rules}
-use lib.ListN.{get_or, set, drop}
-use mathlib.Core.Path.{◌≡◌, refl, sym, ap, subst, ◌∙◌}
-use Rattle.text.proofs.Pairs.{at-end, full, odd, no-high, no-low, one-pair, took, refused}
+-- `text::scan::pairs`.
+use Rattle.std.proofs.Common.{arith, sym, ◌∙◌, ◌≡◌, ◌≤◌, ◌<◌, length}
+use borrow.Author.Tests.{eqb-true, eqb-false}
+use Rattle.text.proofs.Pairs.{full, no_pair, one_pair, odd, none-left, all-read, took_some, took_none}
 use Rattle.text.proofs.scan.pairs.Goals as goal
+use Rattle.text.proofs.scan.pairs.Goals.{else-is_empty-via-then-is_empty+else-count-gt0, else-is_empty-via-else-is_empty}
 
-pub loop-at-init : goal.loop-at-init
-loop-at-init c = (search rules, search rules, refl)
+pub loop-pair-preserved : goal.loop-pair-preserved
+loop-pair-preserved c =
+    let l = c.loop-pair in
+    let s = c.in-Some.ensures.cases in
+    let h : 2 ≤ length l.rest.now = omega (arith, s.2) in
+    let k : l.count < 64 = omega (arith, l.invariant.1, c.if-count-eq64.false) in
+    (one_pair _ _ _ h s.0 s.1 l.count l.room k _ c.in_ok-byte.ensures ∙ l.invariant.0, omega (arith, k))
 
-pub returns-then-count-ge64 : goal.returns-then-count-ge64
-returns-then-count-ge64 c =
-    let k = c.loop-at in
-    let s = c.args.line.now in
-    let e = full k.count k.out s k.at c.loop-at-test.true c.if-count-ge64.true in
-    refused _ k.out c.no_bytes.result (sym k.invariant.2 ∙ e) c.no_bytes.ensures
+pub loop-pair-smaller : goal.loop-pair-smaller
+loop-pair-smaller c = let s = c.in-Some.ensures.cases in omega (arith, s.2)
 
-pub returns-then-line-at-lt2 : goal.returns-then-line-at-lt2
-returns-then-line-at-lt2 c =
-    let k = c.loop-at in
-    let s = c.args.line.now in
-    let e = odd k.count k.out s k.at c.loop-at-test.true c.if-line-at-lt2.true in
-    refused _ k.out c.no_bytes-then-line-at-lt2.result (sym k.invariant.2 ∙ e) c.no_bytes-then-line-at-lt2.ensures
+pub returns-in_err-byte : goal.returns-in_err-byte
+returns-in_err-byte c =
+    let l = c.loop-pair in
+    let s = c.in-Some.ensures.cases in
+    let h : 2 ≤ length l.rest.now = omega (arith, s.2) in
+    rw c.from_residual.ensures (took_none _ _ (sym l.invariant.0 ∙ no_pair _ _ _ h s.0 s.1 l.count l.room c.in_err-byte.ensures))
 
-pub returns-then-high-ge16 : goal.returns-then-high-ge16
-returns-then-high-ge16 c =
-    let k = c.loop-at in
-    let g = subst (λ (n : ℕ). 16 ≤ n) c.digit-high.ensures.0 c.if-high-ge16.true in
-    let e = no-high k.count k.out c.args.line.now k.at c.if-line-at-lt2.false c.if-count-ge64.false g in
-    refused _ k.out c.no_bytes-then-high-ge16.result (sym k.invariant.2 ∙ e) c.no_bytes-then-high-ge16.ensures
+pub returns-then-count-eq64 : goal.returns-then-count-eq64
+returns-then-count-eq64 c =
+    let l = c.loop-pair in
+    let s = c.in-Some.ensures.cases in
+    let h : 2 ≤ length l.rest.now = omega (arith, s.2) in
+    let k : 64 ≤ l.count = omega (arith, c.if-count-eq64.true) in
+    took_none _ _ (sym l.invariant.0 ∙ full _ _ _ h s.0 s.1 l.count l.room k)
 
-pub returns-then-low-ge16 : goal.returns-then-low-ge16
-returns-then-low-ge16 c =
-    let k = c.loop-at in
-    let g = subst (λ (n : ℕ). n < 16) c.digit-high.ensures.0 c.if-high-ge16.false in
-    let f = subst (λ (n : ℕ). 16 ≤ n) c.digit-low.ensures.0 c.if-low-ge16.true in
-    let e = no-low k.count k.out c.args.line.now k.at c.if-line-at-lt2.false c.if-count-ge64.false g f in
-    refused _ k.out c.no_bytes-then-low-ge16.result (sym k.invariant.2 ∙ e) c.no_bytes-then-low-ge16.ensures
+pub returns-then-count-gt0 : goal.returns-then-count-gt0
+returns-then-count-gt0 c =
+    let l = c.loop-pair in
+    let e = eqb-true _ 0 (sym c.is_empty.ensures ∙ c.if-is_empty.true) in
+    took_some _ _ _ (sym l.invariant.0 ∙ all-read l.rest.now l.count l.room e c.if-count-gt0.true) l.invariant.1
 
-pub loop-at-preserved : goal.loop-at-preserved
-loop-at-preserved c =
-    let k = c.loop-at in
-    let s = c.args.line.now in
-    let high = digit_value (get_or s k.at 0) in
-    let low = digit_value (get_or s (k.at + 1) 0) in
-    let g = subst (λ (n : ℕ). n < 16) c.digit-high.ensures.0 c.if-high-ge16.false in
-    let f = subst (λ (n : ℕ). n < 16) c.digit-low.ensures.0 c.if-low-ge16.false in
-    let v : c.digit-high.result * 16 + c.digit-low.result ≡ high * 16 + low = cc (c.digit-high.ensures.0, c.digit-low.ensures.0) in (
-      search rules,
-      search rules,
-      ap (λ (n : ℕ). pairs_of (drop (k.at + 2) s) (k.count + 1) (set k.out k.count n)) v
-          ∙ one-pair k.count k.out s k.at c.if-line-at-lt2.false c.if-count-ge64.false g f
-          ∙ k.invariant.2,
-    )
-
-pub returns : goal.returns
-returns c =
-    let k = c.loop-at in
-    let e = at-end k.count k.out c.args.line.now k.at c.loop-at-test.false in
-    took _ _ _ (sym k.invariant.2 ∙ e) refl k.invariant.0
+pub returns-else-is_empty : goal.returns-else-is_empty
+returns-else-is_empty c =
+    let l = c.loop-pair in
+    elim c.else-is_empty.branch [
+      | else-is_empty-via-then-is_empty+else-count-gt0 w ↦
+          let e : length l.rest.now ≡ 0 = eqb-true _ 0 (sym c.is_empty.ensures ∙ w.if-is_empty.true) in
+          let z : l.count ≡ 0 = omega (arith, w.if-count-gt0.false) in
+          took_none _ _ (sym l.invariant.0 ∙ none-left l.rest.now l.count l.room e z)
+      | else-is_empty-via-else-is_empty w ↦
+          let n = eqb-false _ 0 (sym c.is_empty.ensures ∙ w.if-is_empty.false) in
+          took_none _ _ (sym l.invariant.0 ∙ odd l.rest.now l.count l.room c.in_default.ensures.cases n)
+    ]

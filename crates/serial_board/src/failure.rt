@@ -1,0 +1,24 @@
+// What ends a session.
+use std::io;
+
+// A file or a stream by its name, and what is wrong with it.
+#[derive(Clone, Copy)]
+pub enum Failure<'a> {
+    // It has another length than the image that it is to hold.
+    Length(&'a [u8], usize),
+    Io(&'a [u8], io::Error),
+}
+
+impl Failure<'_> {
+    // A line on a stream. Where the stream takes no more, the line is lost.
+    pub fn tell(&self, stream: &impl Print) {
+        match self {
+            Failure::Length(name, length) => {
+                let _ = stream.write_all(b"20: ");
+                let _ = stream.write_all(name);
+                let _ = println!(stream; ": has another length than {length} bytes");
+            }
+            Failure::Io(name, error) => streams::tell(stream, name, error),
+        }
+    }
+}

@@ -22,6 +22,5 @@ pub fn run(
     if 1000 < budget {
         return Err(Misfit::Budget);
     }
-    let made = machine::run(image, cells, program, budget);
-    Ok(made)
+    Ok(machine::run(image, cells, program, budget))
 }

@@ -15,7 +15,7 @@ fn default_value(image: &mut [u32; REGISTERS], place: usize)
     let row = sheet::row_at(place);
     let access = row.access;
     if access.writes() {
-        reg_image::set_value(image, place, row.standard);
+        reg_image::set_at::<reg_image::Value>(image, place, row.standard);
     }
 }
 

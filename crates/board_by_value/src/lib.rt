@@ -2,9 +2,10 @@
 // state back. It is the one machine's step, over a copy of the image.
 #![tactic(auto)]
 
-ghost use Rattle.board_by_value.specs.Step.{Turns};
+ghost use Rattle.board_by_value.specs.Step.{Turns, number_stepped};
 
 use reg_image::REGISTERS;
+use status::{Misfit, Status};
 
 // The registers, by the image that stands for them.
 #[derive(Clone, Copy)]
@@ -12,40 +13,36 @@ pub struct Registers {
     pub image: [u32; REGISTERS],
 }
 
-// What a step leaves, and its status or 20 or 23.
+// What a step leaves, and its status or what does not fit.
 #[derive(Clone, Copy)]
 pub struct Turned {
     pub registers: Registers,
-    pub status: u8,
+    pub status: Result<Status, Misfit>,
 }
 
-fn step_in_place(image: &mut [u32; REGISTERS], program: &[u8], cells: &mut [u8]) -> u8
-    ensures { Turns program.now image.old cells.old result image.new cells.new }
+#[tactic(auto, unfolding(crate::specs::Step::stepped))]
+fn step_in_place(
+    image: &mut [u32; REGISTERS],
+    program: &[u8],
+    cells: &mut [u8],
+) -> Result<Status, Misfit>
+    ensures { Turns program.now image.old cells.old (number_stepped result) image.new cells.new }
 {
-    if !store::is_program_store(program) {
-        return 20;
-    }
-    if !store::is_parameter_store(cells) {
-        return 20;
-    }
-    if !reg_range::in_range(image) {
-        return 23;
-    }
-    let status = machine::step_alone(image, cells, program);
-    u8::from(status)
+    reg_range::fitting(image, program, cells)?;
+    Ok(machine::step_alone(image, cells, program))
 }
 
 impl Registers {
     // One step of the program, whether or not it runs.
     pub fn step(mut self, program: &[u8], cells: &mut [u8]) -> Turned
-        ensures { Turns program.now self.image cells.old result.status result.registers.image cells.new }
+        ensures { Turns program.now self.image cells.old (number_stepped result.status) result.registers.image cells.new }
     {
         let mut image = self.image;
         let status = step_in_place(&mut image, program, cells);
         self.image = image;
         Turned {
             registers: self,
-            status: status,
+            status,
         }
     }
 }

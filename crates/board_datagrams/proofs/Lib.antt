@@ -1,4 +1,1 @@
 pub mod Taking
-pub mod Modes
-pub mod Answering
-pub mod Carrying

@@ -1,58 +1,49 @@
 -- What a datagram that is a whole command says of its bytes, and where the addresses stand. Assumes nothing.
 use Prim.Native.Nat.{ℕ}
-use native.Mathlib.Omega.{arith}
 use mathlib.Core.Path.{◌≡◌, refl}
 use mathlib.Core.Bool.{true, ◌&&◌}
 use mathlib.Core.List.{List}
 use borrow.Author.Tests.{eqb-true}
 use lib.Dec.{eqb}
 use lib.ListN.{length, get_or}
+use Rattle.std.specs.Prelude.{Result, Ok, Err}
 use Rattle.words.proofs.Bools.{each, either}
 use Rattle.checksum.specs.Checksum.{right_frame}
 use Rattle.wire.specs.Frame.{command_at}
 use Rattle.wire.specs.declared.Command.{Command}
 use Rattle.serial.specs.Serial.{taken_of}
-use Rattle.serial.specs.declared.Taken.{Taken}
-use Rattle.serial.specs.declared.Taken.TheVariants.{NotOurs, Damaged, Whole}
+use Rattle.serial.specs.declared.NotTaken.{NotTaken}
+use Rattle.serial.specs.declared.NotTaken.TheVariants.{NotOurs, Damaged}
 use Rattle.store.specs.Store.{is_program_store, is_parameter_store}
 use Rattle.sheet.specs.Sheet.{axis, globals, read_only, rwe_rows, rw_rows, r_rows}
 use Rattle.settings.specs.Settings.{bank_place}
 use Rattle.rules.specs.Datagram.{lent}
 use Rattle.board_datagrams.specs.Command.{Ready}
 
-pub module-place : bank_place 0 66 ≡ 43
+pub module_place : bank_place 0 66 ≡ 43
 unfolding bank_place axis globals read_only rwe_rows rw_rows r_rows
-module-place = refl
+module_place = refl
 
-pub reply-place : bank_place 0 76 ≡ 45
+pub reply_place : bank_place 0 76 ≡ 45
 unfolding bank_place axis globals read_only rwe_rows rw_rows r_rows
-reply-place = refl
+reply_place = refl
 
 -- ---- a whole command
-not_ours : (c : Command) → Whole c ≡ NotOurs → ⊥
-not_ours c e = let z : ◌≡◌ {A = ℕ} 0 1 = cc in omega arith
-
-not-damaged : (c : Command) (n : ℕ) → Whole c ≡ Damaged n → ⊥
-not-damaged c n e = let z : ◌≡◌ {A = ℕ} 0 1 = cc in omega arith
-
-same-command : (c d : Command) → Whole c ≡ Whole d → d ≡ c
-same-command c d e = cc
-
 abbrev Framed : Command → List ℕ → Type 0
 Framed c s = (length s ≡ 9) × (command_at s 1 ≡ c)
 
-framed : (ours : ℕ) (s : List ℕ) (c : Command) → Whole c ≡ taken_of ours s → Framed c s
+framed : (ours : ℕ) (s : List ℕ) (c : Command) → Ok c ≡ taken_of ours s → Framed c s
 unfolding taken_of
 framed ours s c =
-    let P : Taken → Type 0 = λ t. Whole c ≡ t → Framed c s in
+    let P : Result Command NotTaken → Type 0 = λ t. Ok c ≡ t → Framed c s in
     either P (eqb (length s) 9) _ _
     (λ q. either P (eqb (get_or s 0 0) ours) _ _
-    (λ _. either P (right_frame s) _ _ (λ _ e. (eqb-true (length s) 9 q, same-command c (command_at s 1) e)) (λ _ e. absurd (not-damaged c (get_or s 1 0) e)))
-    (λ _ e. absurd (not_ours c e)))
-    (λ _ e. absurd (not_ours c e))
+    (λ _. either P (right_frame s) _ _ (λ _ e. (eqb-true (length s) 9 q, cc)) (λ _ e. absurd (cc)))
+    (λ _ e. absurd (cc)))
+    (λ _ e. absurd (cc))
 
 -- ---- .. and the lent lengths
-pub ready : (ours : ℕ) (s p m b : List ℕ) (c : Command) → Whole c ≡ taken_of ours s → lent p m b ≡ true → Ready c s p m
+pub ready : (ours : ℕ) (s p m b : List ℕ) (c : Command) → Ok c ≡ taken_of ours s → lent p m b ≡ true → Ready c s p m
 ready ours s p m b c e h =
     let f = framed ours s c e in
     let u = each (is_program_store p && is_parameter_store m) (eqb (length b) 9) h in

@@ -1,16 +1,17 @@
-// The event datagram over an image of the registers, answering document 01's numbers.
+// The event datagram over an image of the registers: the reply's status, no reply, or what does not fit.
+// `number_answered` in a contract is document 01's number of each.
 #![tactic(auto)]
 
 ghost use Rattle.std.specs.Prelude.{◌≡◌};
 ghost use Rattle.words.specs.Bytes.{four_of};
 ghost use Rattle.values.specs.Values.{value_at};
 ghost use Rattle.replying.specs.Reply as replies;
-ghost use Rattle.rules.specs.Datagram as datagrams;
 ghost use Rattle.reg_image.specs.Image.{registers_of};
-ghost use Rattle.board_datagrams.specs.Datagram.{Answers};
+ghost use Rattle.board_datagrams.specs.Datagram.{Answers, number_answered};
 
-use reg_image::REGISTERS;
+use reg_image::{REGISTERS, Value, get_at};
 use replying::Addresses;
+use status::{Misfit, Status};
 
 mod controls;
 mod obeying;
@@ -25,10 +26,10 @@ const REPLY_ADDRESS: usize = 45;
 fn byte_of(image: &[u32; REGISTERS], place: usize) -> u8
     ensures { result ≡ (four_of (value_at (registers_of image.now).values place).v).b0 }
 {
-    let four = words::four_of(reg_image::value(image, place));
-    four.b0
+    words::four_of(get_at::<Value>(image, place)).b0
 }
 
+#[tactic(auto, unfolding(replying::specs::Reply::byte_of), using(crate::proofs::Taking::module_place))]
 fn module_address(image: &[u32; REGISTERS]) -> u8
     ensures { result ≡ replies.byte_of (registers_of image.now).values 66 }
 {
@@ -36,6 +37,7 @@ fn module_address(image: &[u32; REGISTERS]) -> u8
 }
 
 // The two addresses of a reply.
+#[tactic(auto, unfolding(replying::specs::Reply::byte_of, replying::specs::Reply::addresses), using(crate::proofs::Taking::module_place, crate::proofs::Taking::reply_place))]
 pub(crate) fn addresses(image: &[u32; REGISTERS]) -> Addresses
     ensures { result ≡ replies.addresses (registers_of image.now).values }
 {
@@ -45,36 +47,23 @@ pub(crate) fn addresses(image: &[u32; REGISTERS]) -> Addresses
     }
 }
 
-// Whether the lent memory has its three lengths.
-fn lent(program: &[u8], store: &[u8], reply: &[u8]) -> bool
-    ensures { result ≡ datagrams.lent program.now store.now reply.now }
-{
-    if !store::is_program_store(program) {
-        return false;
-    }
-    if !store::is_parameter_store(store) {
-        return false;
-    }
-    reply.len() == 9
-}
-
-// A datagram of any bytes: the reply's status, 0 where there is no reply by length or address, 20 or 23.
+// A datagram of any bytes: the reply's status, or none where there is no reply by length or address.
+#[tactic(auto, unfolding(crate::specs::Datagram::answered))]
 pub fn datagram(
     image: &mut [u32; REGISTERS],
     program: &mut [u8],
     cells: &mut [u8],
     reply: &mut [u8],
     bytes: &[u8],
-) -> u8
-    ensures { Answers bytes.now image.old program.old cells.old reply.old result image.new program.new cells.new reply.new }
+) -> Result<Option<Status>, Misfit>
+    ensures { Answers bytes.now image.old program.old cells.old reply.old (number_answered result) image.new program.new cells.new reply.new }
 {
-    if !lent(program, cells, reply) {
-        return 20;
+    if reply.len() != 9 {
+        return Err(Misfit::Length);
     }
-    if !reg_range::in_range(image) {
-        return 23;
-    }
-    let ours = module_address(image);
-    let taken = serial::take_command(bytes, ours);
-    receiving::receive(image, program, cells, reply, bytes, taken)
+    reg_range::fitting(image, program, cells)?;
+    let taken = serial::take_command(bytes, module_address(image));
+    Ok(receiving::receive(
+        image, program, cells, reply, bytes, taken,
+    ))
 }

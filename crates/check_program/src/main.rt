@@ -5,7 +5,7 @@
 mod reason;
 mod unread;
 
-use checking::Verdict;
+use checking::Fault;
 use points::Point;
 use reason::reason;
 use status::Status;
@@ -30,7 +30,7 @@ fn tell_refusal(rt: &impl Print, image: &[u8], point: Point, status: Status) {
         "refused at address {}, depth {}, status {}: ",
         point.address,
         point.depth,
-        status.number()
+        u8::from(status)
     );
     match image.chunks_exact(7).nth(usize::from(point.address)) {
         Some(record) => {
@@ -43,9 +43,9 @@ fn tell_refusal(rt: &impl Print, image: &[u8], point: Point, status: Status) {
 
 fn tell_verdict(rt: &impl Print, image: &[u8]) {
     match checking::check(image) {
-        Verdict::Passed => say(rt, "passed"),
-        Verdict::Length => say(rt, "20: has another length than 7168 bytes"),
-        Verdict::Refused(point, status) => tell_refusal(rt, image, point, status),
+        Ok(()) => say(rt, "passed"),
+        Err(Fault::Length) => say(rt, "20: has another length than 7168 bytes"),
+        Err(Fault::Bad(point, status)) => tell_refusal(rt, image, point, status),
     }
 }
 

@@ -7,6 +7,7 @@
 #![tactic(auto)]
 
 ghost use Rattle.std.specs.Prelude.{◌≡◌};
+ghost use Rattle.status.specs.Misfit.{told};
 ghost use Rattle.board.specs.Registers.{powered};
 ghost use Rattle.rules.specs.Events.{with_tick, with_sample};
 ghost use Rattle.reg_image.specs.Image.{registers_of};
@@ -18,13 +19,21 @@ ghost use Rattle.numbered.specs.Host as host;
 ghost use Rattle.dhikmarul.specs.Answers.{Checked};
 
 use reg_image::REGISTERS;
+use status::Misfit;
+
+// The number of an event that is carried out, or does not fit.
+fn number(event: Result<(), Misfit>) -> u8
+    ensures { result ≡ told event }
+{
+    event.map_or_else(u8::from, |()| 100)
+}
 
 // The cells of a new board.
 #[unsafe(no_mangle)]
 pub extern "C" fn dhikmarul_new_cells(cells: &mut [u8]) -> u8
     ensures { events.cells_left result cells.new ≡ events.new_cells cells.old }
 {
-    board_events::new_cells(cells)
+    number(board_events::new_cells(cells))
 }
 
 // Power-up.
@@ -32,7 +41,7 @@ pub extern "C" fn dhikmarul_new_cells(cells: &mut [u8]) -> u8
 pub extern "C" fn dhikmarul_power_up(registers: &mut [u32; REGISTERS], cells: &[u8]) -> u8
     ensures { Told (events.power_status cells.now) (powered cells.now) registers.old registers.new result }
 {
-    board_events::power_up(registers, cells)
+    number(board_events::power_up(registers, cells))
 }
 
 // A datagram.
@@ -47,6 +56,7 @@ pub extern "C" fn dhikmarul_datagram(
     ensures { Answers bytes.now registers.old program.old cells.old reply.old result registers.new program.new cells.new reply.new }
 {
     board_datagrams::datagram(registers, program, cells, reply, bytes)
+        .map_or_else(u8::from, |replied| replied.map_or(0, u8::from))
 }
 
 // A sample of sixteen fields.
@@ -54,7 +64,7 @@ pub extern "C" fn dhikmarul_datagram(
 pub extern "C" fn dhikmarul_sample(registers: &mut [u32; REGISTERS], fields: &[i32; 16]) -> u8
     ensures { Told (events.sample_status fields.now registers.old) (with_sample (events.sample_of fields.now) (registers_of registers.old)) registers.old registers.new result }
 {
-    board_events::sample(registers, fields)
+    number(board_events::sample(registers, fields))
 }
 
 // A tick.
@@ -62,7 +72,7 @@ pub extern "C" fn dhikmarul_sample(registers: &mut [u32; REGISTERS], fields: &[i
 pub extern "C" fn dhikmarul_tick(registers: &mut [u32; REGISTERS]) -> u8
     ensures { Told (events.tick_status registers.old) (with_tick (registers_of registers.old)) registers.old registers.new result }
 {
-    board_events::tick(registers)
+    number(board_events::tick(registers))
 }
 
 // A run, and how many steps it made.
@@ -77,8 +87,8 @@ pub extern "C" fn dhikmarul_run(
     ensures { Runs program.now budget registers.old cells.old (answered result steps.new) registers.new cells.new }
 {
     let ran = board_runs::run(registers, program, cells, budget);
-    *steps = ran.steps;
-    ran.status
+    *steps = ran.map_or(0, |made| made.steps);
+    ran.map_or_else(u8::from, |made| u8::from(made.status))
 }
 
 // The program check, and the bad point that it names.

@@ -10,10 +10,9 @@ use Rattle.reg_image.specs.Image.{registers_of, shaped}
 use Rattle.reg_range.specs.Range.{stands}
 use Rattle.board_events.specs.Standing.{Told, Leaving}
 use Rattle.board_datagrams.specs.Datagram.{Answers}
-use Rattle.board_runs.specs.Run.{Runs}
+use Rattle.board_runs.specs.Run.{Runs, Ran}
 use Rattle.board_runs.specs.Run as image-runs
 use Rattle.rules.specs.RunEvent as runs
-use Rattle.board_runs.specs.declared.Ran.{Ran}
 use Rattle.law_rows.specs.Rows.{Numbers}
 use Rattle.law_rows.proofs.Places.{one_image}
 use Rattle.law_events.specs.Answers.{OneAnswer}

@@ -34,8 +34,7 @@ use Rattle.rules.specs.Datagram.{Board, board, lent, received, obeyed_by}
 use Rattle.reg_image.specs.Image.{registers_of}
 use Rattle.reg_range.specs.Range.{stands}
 use Rattle.board_datagrams.specs.Datagram.{Answers, answered}
-use Rattle.board_runs.specs.Run.{Runs, ran}
-use Rattle.board_runs.specs.declared.Ran.{Ran}
+use Rattle.board_runs.specs.Run.{Runs, ran, Ran}
 use Rattle.law_rows.proofs.Rules.{done-open}
 use Rattle.law_events.specs.Steps.{Steps, Ends, before, single_steps, held, skipped}
 use Rattle.law_events.specs.Waits.{wait_holds}

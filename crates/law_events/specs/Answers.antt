@@ -2,8 +2,7 @@
 -- what its type holds (`Numbers`).
 use Rattle.std.specs.Prelude.{ℕ, ◌≡◌, List, ℤ}
 use Rattle.board_datagrams.specs.Datagram.{Answers}
-use Rattle.board_runs.specs.Run.{Runs}
-use Rattle.board_runs.specs.declared.Ran.{Ran}
+use Rattle.board_runs.specs.Run.{Runs, Ran}
 use Rattle.law_rows.specs.Rows.{PowersUp, Samples, Ticks, Numbers}
 
 pub record OneAnswer : Type 0 where

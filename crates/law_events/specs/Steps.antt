@@ -16,8 +16,7 @@ use Rattle.reg_image.specs.With.{in_core}
 use Rattle.reg_range.specs.Range.{stands}
 use Rattle.board_datagrams.specs.Datagram.{Answers}
 use Rattle.rules.specs.RunEvent.{lent}
-use Rattle.board_runs.specs.Run.{Runs}
-use Rattle.board_runs.specs.declared.Ran.{Ran}
+use Rattle.board_runs.specs.Run.{Runs, Ran}
 use Rattle.law_events.specs.Waits.{wait_holds}
 
 -- ---- so many of 130's steps, one after the other: registers, cells, and the last one's status, "or 100 with no step"

@@ -42,8 +42,7 @@ use Rattle.reg_range.specs.Range.{stands}
 use Rattle.board_events.specs.Standing.{Told, Is, Leaving}
 use Rattle.board_events.specs.Events.{tick_status, sample_of, sample_status}
 use Rattle.board_datagrams.specs.Datagram.{Answers, answered}
-use Rattle.board_runs.specs.Run.{Runs, ran}
-use Rattle.board_runs.specs.declared.Ran.{Ran}
+use Rattle.board_runs.specs.Run.{Runs, ran, Ran}
 use Rattle.law_rows.specs.Rows.{Samples, Ticks, Happens, power-up, sample, tick, datagram, run, Row, none, also, SincePowerUp, since, Numbers}
 use Rattle.law_rows.specs.Laws.{Laws}
 use Rattle.law_rows.proofs.Places.{one_image}

@@ -4,9 +4,8 @@ use Rattle.rules.specs.Datagram.{lent}
 use Rattle.reg_image.specs.Image.{registers_of, shaped}
 use Rattle.reg_range.specs.Range.{stands}
 use Rattle.board_datagrams.specs.Datagram.{Answers}
-use Rattle.board_runs.specs.Run.{Runs}
+use Rattle.board_runs.specs.Run.{Runs, Ran}
 use Rattle.rules.specs.RunEvent as runs
-use Rattle.board_runs.specs.declared.Ran.{Ran}
 use Rattle.law_rows.specs.Rows.{PowersUp, Samples, Ticks, Happens, Row, SincePowerUp, Numbers}
 use Rattle.numbered.specs.Check.{Checks}
 use Rattle.numbered.specs.declared.Checked.{Checked}

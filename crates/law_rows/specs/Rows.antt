@@ -7,8 +7,7 @@ use Rattle.reg_image.specs.Image.{registers_of}
 use Rattle.board_events.specs.Standing.{Told}
 use Rattle.board_events.specs.Events.{tick_status, power_status, sample_of, sample_status}
 use Rattle.board_datagrams.specs.Datagram.{Answers}
-use Rattle.board_runs.specs.Run.{Runs}
-use Rattle.board_runs.specs.declared.Ran.{Ran}
+use Rattle.board_runs.specs.Run.{Runs, Ran}
 
 -- ---- the contracts of power-up, sample and tick: the image before and after, and the number answered
 abbrev pub PowersUp : List ℕ → List ℕ → List ℕ → ℕ → Type 0

@@ -11,8 +11,7 @@ use Rattle.replying.specs.Reply.{byte_of}
 use Rattle.safety.specs.Events.{carries, begins_by, from_another}
 use Rattle.reg_image.specs.Image.{registers_of}
 use Rattle.board_datagrams.specs.Datagram.{Answers}
-use Rattle.board_runs.specs.Run.{Runs}
-use Rattle.board_runs.specs.declared.Ran.{Ran}
+use Rattle.board_runs.specs.Run.{Runs, Ran}
 use Rattle.law_rows.specs.Rows.{PowersUp, Samples, Ticks}
 
 -- "Events: datagram, sample, tick, run, power-up", each with what it is given beside the image and the records, which may be any

@@ -1,6 +1,6 @@
 // The lines of the trace: headings and remarks as the script has them, and what the board answered and
 // did, set in by two spaces.
-use checking::Verdict;
+use checking::{Answer, Fault};
 use display::Unread;
 use reg_image::REGISTERS;
 use registers::Order;
@@ -111,8 +111,8 @@ pub(crate) fn answer(rt: &impl Print, status: u8, reply: &[u8; 9]) {
     text(rt, b"\n");
 }
 
-pub(crate) fn verdict(rt: &impl Print, verdict: Verdict) {
-    let answer = verdict.answer();
+pub(crate) fn verdict(rt: &impl Print, verdict: Result<(), Fault>) {
+    let answer = Answer::from(verdict);
     let point = answer.point;
     if answer.number == 100 {
         text(rt, b"  check: passed\n");

@@ -49,7 +49,7 @@ fn show_loading(rt: &impl Print, bench: &mut Bench, listed: &[u8; 7168]) {
         "\n3. A new board is loaded: nine bytes there, nine bytes back",
     );
     bench.ignite(rt);
-    bench.load(rt, listed, tilt::RECORDS);
+    bench.load(rt, listed);
     bench.send(rt, command(names::READ_PROGRAM, 1, 0, 9));
     say(rt, "  1507328 is 23 x 65536: the record at 9 is CSUB.");
     say(

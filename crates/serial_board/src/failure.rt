@@ -10,7 +10,8 @@ pub enum Failure<'a> {
 }
 
 impl Failure<'_> {
-    // A line on a stream. Where the stream takes no more, the line is lost.
+    // A line on a stream, with the name as it was given, which need not be text. Where the stream takes no
+    // more, the line is lost.
     pub fn tell(&self, stream: &impl Print) {
         match self {
             Failure::Length(name, length) => {

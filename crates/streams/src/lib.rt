@@ -50,7 +50,8 @@ impl fmt::Display for Spelled<'_> {
     }
 }
 
-// The system's words of an error: as std prints them, they have its number behind them.
+// The system's words of an error: as std prints them, they have its number behind them, and what is left of
+// the room behind that is zeros.
 fn cause(said: &str) -> &str {
     match said.split_once(" (os error ") {
         Some((before, _)) => before,

@@ -72,19 +72,21 @@ fn tell_image(rt: &(impl Files + Print), name: &[u8]) {
     }
 }
 
+fn argument<'r>(rt: &impl Env, place: usize, room: &'r mut [u8; 4096]) -> Result<&'r [u8], Unread> {
+    let length = rt.arg(place, room)?;
+    Ok(&room[..length])
+}
+
 // The line for the image that an argument names. It begins with the name where there are more images.
 fn answer(rt: &(impl Env + Files + Print), place: usize, is_named: bool) {
     let mut room = [0u8; 4096];
-    let given = rt
-        .arg(place, &mut room)
-        .map_err(|error| Unread::from(error));
+    let given = argument(rt, place, &mut room);
     if is_named {
-        let length = given.unwrap_or(0);
-        let _ = rt.write_all(&room[..length]);
+        let _ = rt.write_all(given.unwrap_or(&[]));
         let _ = rt.write_all(b": ");
     }
     match given {
-        Ok(length) => tell_image(rt, &room[..length]),
+        Ok(name) => tell_image(rt, name),
         Err(unread) => say(rt, unread),
     }
 }

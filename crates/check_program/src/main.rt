@@ -9,28 +9,25 @@ use checking::Verdict;
 use points::Point;
 use reason::reason;
 use status::Status;
-use std::fmt::Display;
 use std::fs;
 use std::rt::{Env, Files};
-use streams::Spelled;
+use streams::{Spelled, put, say};
 use unread::Unread;
 use wire::command_in;
 
 // One byte more than a program store has, so that a longer image is seen to be one.
 const MOST: usize = 7169;
 
-// A line. Where standard output takes no more, it is lost and the program goes on.
-fn say(rt: &impl Print, line: impl Display + Drop) {
-    let _ = rt.println(line);
-}
-
 // Where a program is refused and why, and the record that stands there.
 fn tell_refusal(rt: &impl Print, image: &[u8], point: Point, status: Status) {
-    let _ = print!(rt;
-        "refused at address {}, depth {}, status {}: ",
-        point.address,
-        point.depth,
-        status.number()
+    put(
+        rt,
+        format_args!(
+            "refused at address {}, depth {}, status {}: ",
+            point.address,
+            point.depth,
+            status.number()
+        ),
     );
     match image.chunks_exact(7).nth(usize::from(point.address)) {
         Some(record) => {

@@ -4,13 +4,12 @@ ghost use Rattle.std.specs.Prelude.{◌≤◌, length};
 use crate::bracket::Outside;
 use crate::mnemonic::Mnemonic;
 use crate::names;
-use crate::print::say;
 use crate::tilt::{RECORDS, command};
 use crate::trace::{Moment, Seen};
 use display::Received;
 use reg_image::REGISTERS;
 use std::fmt;
-use streams::Spelled;
+use streams::{Spelled, say};
 use wire::Command;
 
 // A command as the display sends it to address 1, and what comes back.

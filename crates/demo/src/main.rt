@@ -6,13 +6,12 @@ mod bench;
 mod bracket;
 mod mnemonic;
 mod names;
-mod print;
 mod tilt;
 mod trace;
 
 use bench::Bench;
 use bracket::Outside;
-use print::{put, say};
+use streams::{put, say};
 use tilt::{Checked, command};
 
 // The program as listed, and with one mistake in it.

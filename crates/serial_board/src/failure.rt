@@ -17,7 +17,10 @@ impl Failure<'_> {
             Failure::Length(name, length) => {
                 let _ = stream.write_all(b"20: ");
                 let _ = stream.write_all(name);
-                let _ = println!(stream; ": has another length than {length} bytes");
+                streams::say(
+                    stream,
+                    format_args!(": has another length than {length} bytes"),
+                );
             }
             Failure::Io(name, error) => streams::tell(stream, name, error),
         }

@@ -4,14 +4,13 @@ ghost use Rattle.std.specs.Prelude.{◌≤◌, length};
 use crate::bracket::Outside;
 use crate::mnemonic::Mnemonic;
 use crate::names;
-use crate::print::say;
-use crate::tilt::command;
+use crate::tilt::{RECORDS, command};
 use crate::trace::{Moment, Seen};
 use display::Unread;
 use reg_image::REGISTERS;
 use status::{Misfit, Status};
 use std::fmt;
-use streams::Spelled;
+use streams::{Spelled, say};
 use wire::Command;
 
 // A command as the display sends it to address 1, and what comes back.
@@ -95,9 +94,9 @@ impl Bench {
         say(rt, self.exchange(sent));
     }
 
-    // The first records of a listed program, through download mode: the first and the last one are told.
-    pub(crate) fn load(&mut self, rt: &impl Print, listed: &[u8; 7168], count: usize) {
-        let last = count.saturating_sub(1);
+    // The tilt program, through download mode: the first and the last record are told.
+    pub(crate) fn load(&mut self, rt: &impl Print, listed: &[u8; 7168]) {
+        let last = RECORDS - 1;
         self.send(rt, command(names::START_DOWNLOAD, 0, 0, 0));
         self.send(rt, store::record_at(listed, 0));
         let stored = (1..last)

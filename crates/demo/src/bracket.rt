@@ -24,7 +24,7 @@ pub(crate) fn parameter(image: &[u32; REGISTERS], number: u8) -> i32 {
 }
 
 // How far the bracket goes in 10 ms at a velocity; it has no way below 0.
-fn way(velocity: i32) -> i32 {
+fn way_at(velocity: i32) -> i32 {
     velocity.max(0) / 100
 }
 
@@ -43,10 +43,10 @@ impl Outside {
     // at the speed limit, and not past it.
     pub(crate) fn moved(&self, image: &[u32; REGISTERS]) -> i32 {
         match reg_image::get::<reg_image::MotionOrder>(image) {
-            Order::Velocity => raised(self.position, way(reg_image::get::<reg_image::Velocity>(image).v), TOP),
+            Order::Velocity => raised(self.position, way_at(reg_image::get::<reg_image::Velocity>(image).v), TOP),
             Order::Position => {
                 let target = parameter(image, names::TARGET_POSITION).max(0);
-                let way = way(parameter(image, names::SPEED_LIMIT));
+                let way = way_at(parameter(image, names::SPEED_LIMIT));
                 if self.position <= target {
                     raised(self.position, way, target)
                 } else {

@@ -1,9 +1,9 @@
 // The tilt program: its records put into a program store and listed, with what each is there for.
 use crate::mnemonic::Mnemonic;
 use crate::names;
-use crate::print::say;
 use checking::Fault;
 use std::fmt;
+use streams::say;
 use wire::Command;
 use words::Word;
 

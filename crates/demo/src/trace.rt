@@ -54,23 +54,28 @@ struct Happened(Seen, Seen);
 impl fmt::Display for Happened {
     fn fmt<W: fmt::Write>(&self, f: &mut fmt::Formatter<W>) -> fmt::Result {
         let Happened(a, b) = self;
-        let right = ("right limit switch on; ", "right limit switch off; ");
-        let eto = ("ETO set: the wait ran out; ", "ETO cleared; ");
-        f.write_str(turned(a.up, b.up, "tilt up pressed; ", "tilt up released; "))?;
-        f.write_str(turned(
+        let up = turned(a.up, b.up, "tilt up pressed; ", "tilt up released; ");
+        let down = turned(
             a.down,
             b.down,
             "tilt down pressed; ",
             "tilt down released; ",
-        ))?;
-        f.write_str(turned(a.right, b.right, right.0, right.1))?;
-        f.write_str(turned(a.reached, b.reached, "position reached; ", ""))?;
-        f.write_str(turned(a.eto, b.eto, eto.0, eto.1))?;
-        if a.motor != b.motor {
-            f.write_str(b.motor)?;
-        }
-        f.write_str(turned(a.output_0, b.output_0, "output 0 on; ", "output 0 off; "))?;
-        f.write_str(turned(a.output_1, b.output_1, "output 1 on; ", "output 1 off; "))
+        );
+        let right = turned(
+            a.right,
+            b.right,
+            "right limit switch on; ",
+            "right limit switch off; ",
+        );
+        let reached = turned(a.reached, b.reached, "position reached; ", "");
+        let eto = turned(a.eto, b.eto, "ETO set: the wait ran out; ", "ETO cleared; ");
+        let motor = if a.motor == b.motor { "" } else { b.motor };
+        let output_0 = turned(a.output_0, b.output_0, "output 0 on; ", "output 0 off; ");
+        let output_1 = turned(a.output_1, b.output_1, "output 1 on; ", "output 1 off; ");
+        write!(
+            f,
+            "{up}{down}{right}{reached}{eto}{motor}{output_0}{output_1}"
+        )
     }
 }
 

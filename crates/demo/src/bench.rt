@@ -100,7 +100,8 @@ impl Bench {
         self.send(rt, command(names::START_DOWNLOAD, 0, 0, 0));
         self.send(rt, store::record_at(listed, 0));
         let stored = (1..last)
-            .filter(|&at| self.exchange(store::record_at(listed, at)).answered == Ok(Some(Status::Stored)))
+            .filter(|&at| self.exchange(store::record_at(listed, at)).answered
+                == Ok(Some(Status::Stored)))
             .count();
         say(
             rt,

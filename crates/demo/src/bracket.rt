@@ -43,7 +43,11 @@ impl Outside {
     // at the speed limit, and not past it.
     pub(crate) fn moved(&self, image: &[u32; REGISTERS]) -> i32 {
         match reg_image::get::<reg_image::MotionOrder>(image) {
-            Order::Velocity => raised(self.position, way_at(reg_image::get::<reg_image::Velocity>(image).v), TOP),
+            Order::Velocity => raised(
+                self.position,
+                way_at(reg_image::get::<reg_image::Velocity>(image).v),
+                TOP,
+            ),
             Order::Position => {
                 let target = parameter(image, names::TARGET_POSITION).max(0);
                 let way = way_at(parameter(image, names::SPEED_LIMIT));
@@ -59,7 +63,10 @@ impl Outside {
 
     fn is_at_target(&self, image: &[u32; REGISTERS]) -> bool {
         let target = parameter(image, names::TARGET_POSITION);
-        matches!(reg_image::get::<reg_image::MotionOrder>(image), Order::Position) && target == self.position
+        matches!(
+            reg_image::get::<reg_image::MotionOrder>(image),
+            Order::Position
+        ) && target == self.position
     }
 
     // What the board measures: positions, the reached flag, three switches, supply voltage, temperature,

@@ -86,7 +86,11 @@ struct Ordered<'a>(&'a [u32; REGISTERS]);
 impl fmt::Display for Ordered<'_> {
     fn fmt<W: fmt::Write>(&self, f: &mut fmt::Formatter<W>) -> fmt::Result {
         match reg_image::get::<reg_image::MotionOrder>(self.0) {
-            Order::Velocity => write!(f, "velocity {}", reg_image::get::<reg_image::Velocity>(self.0).v),
+            Order::Velocity => write!(
+                f,
+                "velocity {}",
+                reg_image::get::<reg_image::Velocity>(self.0).v
+            ),
             Order::Position => write!(f, "position {}", parameter(self.0, names::TARGET_POSITION)),
             Order::Stopped => write!(f, "stopped"),
         }
@@ -110,9 +114,17 @@ impl Moment<'_> {
         let record = store::record_at(program, address as usize);
         write!(f, "; at {address} {}", Mnemonic(record))?;
         if reg_image::get::<reg_image::Armed>(self.image) {
-            write!(f, ", ticks left {}", reg_image::get::<reg_image::Count>(self.image))?;
+            write!(
+                f,
+                ", ticks left {}",
+                reg_image::get::<reg_image::Count>(self.image)
+            )?;
         }
-        write!(f, ", depth {}", reg_image::get::<reg_image::Depth>(self.image))
+        write!(
+            f,
+            ", depth {}",
+            reg_image::get::<reg_image::Depth>(self.image)
+        )
     }
 }
 
@@ -127,7 +139,11 @@ impl fmt::Display for Moment<'_> {
             "  tick {time}: {happened}position {position}, order {order}, outputs "
         )?;
         for port in 0..4 {
-            write!(f, "{}", reg_image::get_at::<reg_image::Output>(self.image, port))?;
+            write!(
+                f,
+                "{}",
+                reg_image::get_at::<reg_image::Output>(self.image, port)
+            )?;
         }
         self.write_place(f)
     }

@@ -104,7 +104,11 @@ fn wait(rt: &impl Print, image: &[u32; REGISTERS]) {
         text(rt, b"no wait");
     } else if reg_image::get::<reg_image::Timed>(image) {
         text(rt, b"waits, ");
-        counted(rt, u64::from(reg_image::get::<reg_image::Count>(image)), b" tick");
+        counted(
+            rt,
+            u64::from(reg_image::get::<reg_image::Count>(image)),
+            b" tick",
+        );
         text(rt, b" left");
     } else {
         text(rt, b"waits without timeout");
@@ -121,7 +125,11 @@ fn parameter(rt: &impl Print, words: &[u8], image: &[u32; REGISTERS], number: u8
 fn motion(rt: &impl Print, image: &[u32; REGISTERS]) {
     match reg_image::get::<reg_image::MotionOrder>(image) {
         Order::Stopped => text(rt, b", order stopped"),
-        Order::Velocity => labelled_word(rt, b", order velocity ", reg_image::get::<reg_image::Velocity>(image)),
+        Order::Velocity => labelled_word(
+            rt,
+            b", order velocity ",
+            reg_image::get::<reg_image::Velocity>(image),
+        ),
         Order::Position => parameter(rt, b", order position ", image, 50),
     }
 }
@@ -147,7 +155,11 @@ fn flags(rt: &impl Print, image: &[u32; REGISTERS]) {
 
 // Where the program stands.
 fn place(rt: &impl Print, image: &[u32; REGISTERS]) {
-    labelled(rt, b"; address ", reg_image::get::<reg_image::Address>(image));
+    labelled(
+        rt,
+        b"; address ",
+        reg_image::get::<reg_image::Address>(image),
+    );
     if reg_image::get::<reg_image::Running>(image) {
         text(rt, b", running");
     } else {
@@ -158,7 +170,11 @@ fn place(rt: &impl Print, image: &[u32; REGISTERS]) {
 
 // What the program has worked out, what it waits for, and what the motor is ordered to do.
 fn work(rt: &impl Print, image: &[u32; REGISTERS]) {
-    labelled_word(rt, b", accumulator ", reg_image::get::<reg_image::Accumulator>(image));
+    labelled_word(
+        rt,
+        b", accumulator ",
+        reg_image::get::<reg_image::Accumulator>(image),
+    );
     labelled_word(rt, b", X ", reg_image::get::<reg_image::X>(image));
     text(rt, b", ");
     wait(rt, image);
@@ -171,7 +187,11 @@ fn work(rt: &impl Print, image: &[u32; REGISTERS]) {
 pub(crate) fn ran(rt: &impl Print, ran: Result<Made, Misfit>, image: &[u32; REGISTERS]) {
     text(rt, b"  run: ");
     counted(rt, ran.map_or(0, |made| made.steps) as u64, b" step");
-    labelled(rt, b", status ", ran.map_or_else(u8::from, |made| u8::from(made.status)));
+    labelled(
+        rt,
+        b", status ",
+        ran.map_or_else(u8::from, |made| u8::from(made.status)),
+    );
     place(rt, image);
     work(rt, image);
 }
@@ -181,7 +201,11 @@ pub(crate) fn measured(rt: &impl Print, measured: Result<(), Misfit>, image: &[u
     labelled(rt, b"  sample: status ", number(measured));
     parameter(rt, b"; position ", image, 52);
     parameter(rt, b", reached ", image, 55);
-    labelled_word(rt, b", AIN0 ", reg_image::get_at::<reg_image::Analog>(image, 0));
+    labelled_word(
+        rt,
+        b", AIN0 ",
+        reg_image::get_at::<reg_image::Analog>(image, 0),
+    );
     parameter(rt, b", switches right ", image, 211);
     parameter(rt, b", left ", image, 212);
     parameter(rt, b", home ", image, 213);

@@ -6,28 +6,18 @@
 #![tactic(auto)]
 
 pub mod at;
-mod lists;
 mod register;
 mod row;
-mod scalars;
 mod stored;
+mod whole;
 
 // The numbers of an image.
 pub const REGISTERS: usize = 137;
 
-pub use lists::{
-    analog, digital, empty_stack, entry, output, set_analog, set_digital, set_entry, set_output,
-    set_value, value,
-};
 pub use register::{
     Accumulator, Address, Armed, Count, Depth, Downloading, Eal, Edv, Epo, Eto, Last, MotionOrder,
     Register, Running, Timed, Velocity, WriteAddress, X, get, set,
 };
 pub use row::{Analog, Digital, Entry, Output, Row, Value, get_at, set_at};
-pub use scalars::{
-    accumulator, address, armed, count, depth, downloading, eal, edv, epo, eto, last, motion_order,
-    running, set_accumulator, set_address, set_count, set_depth, set_downloading, set_eal, set_edv,
-    set_epo, set_eto, set_last, set_motion, set_running, set_wait, set_write_address, set_x, timed,
-    velocity, write_address, x,
-};
 pub use stored::Stored;
+pub use whole::{empty_stack, set_motion, set_wait};

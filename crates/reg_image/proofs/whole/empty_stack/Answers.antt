@@ -4,7 +4,7 @@ use Rattle.reg_image.specs.With.{in_core, with_entries}
 use Rattle.reg_image.specs.Image.{registers_of}
 use Rattle.reg_image.proofs.Places.{then}
 use Rattle.reg_image.proofs.Stack.{entries-length, cleared}
-use Rattle.reg_image.proofs.lists.empty_stack.Goals as goal
+use Rattle.reg_image.proofs.whole.empty_stack.Goals as goal
 
 pub returns : goal.returns
 returns c =

@@ -14,6 +14,8 @@ use registers::Order;
 use std::cmp::Ordering;
 use words::Word;
 
+// What names a register. `read` is the register among those that an image stands for, and `with` those with it
+// changed; the laws say that its place holds it.
 pub trait Register {
     type Value: Stored;
 

@@ -13,6 +13,7 @@ use crate::stored::Stored;
 use crate::{REGISTERS, at};
 use words::Word;
 
+// What names a row. `read` and `with` are as those of a `Register`, by the index in the row.
 pub trait Row {
     type Value: Stored;
 

@@ -1,4 +1,5 @@
-// What stands at a place of the image as a number: a number, a truth, a word, a comparison, an order.
+// What stands at a place of the image as a number: a number, a truth, a word, a comparison, an order. No `From`
+// of std can be written for them here, since none of the types is of this crate.
 ghost use Rattle.std.specs.Prelude.{◌≡◌, ℕ, true};
 ghost use Rattle.words.specs.Word.{word, of_bits};
 ghost use Rattle.reg_image.specs.Image.{Kind, number, bit, comparison, order, takes, is_on, comparison_of, order_of};

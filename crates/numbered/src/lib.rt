@@ -8,8 +8,9 @@ mod verdicts;
 pub use host::{build_command, read_reply};
 pub use verdicts::check;
 
-// 100, 20, or the status of the lowest bad point and where it is.
-#[derive(Clone, Copy)]
+// 100, 20, or the status of the lowest bad point and where it is: `checking::Answer` in three numbers, which the
+// C interface hands on one by one.
+#[derive(Clone, Copy, PartialEq, Eq)]
 pub struct Checked {
     pub status: u8,
     pub address: u16,

@@ -70,6 +70,7 @@ impl Walk {
     }
 
     // An address is reached at some depths: where one of them is new, it waits on the stack, once.
+    #[tactic(auto, unfolding(crate::specs::Walk::reached))]
     fn reach(&mut self, site: Site)
         ensures { self.new ≡ reached self.old site.address site.depths }
     {
@@ -87,6 +88,7 @@ impl Walk {
     }
 
     // Takes an address off the stack.
+    #[tactic(auto, unfolding(crate::specs::Walk::taken))]
     fn take(&mut self) -> Option<Site>
         ensures { in_hand self.new result ≡ taken self.old }
     {
@@ -102,6 +104,7 @@ impl Walk {
 
     // An address is reached, and one is taken: the same one where it has new depths and did not wait, which
     // spares the stack along records in a row.
+    #[tactic(auto, unfolding(crate::specs::Walk::gone))]
     pub(crate) fn go(&mut self, site: Site) -> Option<Site>
         ensures { in_hand self.new result ≡ gone self.old site.address site.depths }
     {

@@ -1,9 +1,8 @@
 -- `walking::walk::Walk::go`.
-use borrow.Author.Tests.{ne_eqb, lt-ltb}
 use mathlib.Core.Path.{◌≡◌, ap, ◌∙◌, subst}
 use mathlib.Core.Logic.{inl, inr, ◌⊎◌}
 use Prim.Native.Nat.{◌≤◌}
-use Rattle.walking.specs.Walk.{Walk, joined, depths_at, mask_at, taken, gone}
+use Rattle.walking.specs.Walk.{Walk, joined, depths_at, mask_at, taken}
 use Rattle.walking.proofs.Depths.{or-low}
 use Rattle.walking.proofs.Masks.{unmasked, new-joined, old-joined, by-stack, on-hand-room}
 use Rattle.walking.proofs.walk.Walk.go.Goals as goal
@@ -17,14 +16,6 @@ invariant_of-self c =
     let s = c.args.site in
     let l = c.if-mask-lt-WAITS.true in
     rw (unmasked _ s.depths l) (on-hand-room _ _ _ c.self.invariant s.inside s.small (new-joined _ s.depths l c.if-depths-mask.true) l)
-
-pub returns-then-depths-mask : goal.returns-then-depths-mask
-unfolding gone
-returns-then-depths-mask c =
-    let s = c.args.site in
-    let l = c.if-mask-lt-WAITS.true in
-    rw (← c.self.view_is, unmasked _ s.depths l)
-    (simp (lt-ltb _ _ l, ne_eqb _ _ (new-joined _ s.depths l c.if-depths-mask.true)))
 
 pub returns : goal.returns
 returns c =

@@ -1,13 +1,9 @@
 -- `walking::walk::Walk::reach`.
 use native.Mathlib.Omega.{arith}
-use borrow.Author.Tests.{eq-eqb, ne_eqb, lt-ltb, le-ltb}
+use borrow.Author.Tests.{ne_eqb, lt-ltb, le-ltb}
 use Rattle.walking.specs.Walk.{reached}
 use Rattle.walking.proofs.Masks.{room_for, joined-low, reached-room}
 use Rattle.walking.proofs.walk.Walk.reach.Goals as goal
-
-pub returns-then-joined-before : goal.returns-then-joined-before
-unfolding reached
-returns-then-joined-before c = rw (← c.self.view_is) (simp (eq-eqb _ _ c.if-joined-before.true))
 
 pub overflow_add-self : goal.overflow_add-self
 overflow_add-self c = omega (arith, joined-low _ _ _ c.self.invariant c.args.site.inside c.args.site.small)
@@ -30,11 +26,3 @@ pub invariant_of-self-else-old-lt-WAITS : goal.invariant_of-self-else-old-lt-WAI
 unfolding reached
 invariant_of-self-else-old-lt-WAITS c =
     simp (ne_eqb _ _ c.if-joined-before.false, le-ltb _ _ c.if-old-lt-WAITS.false) at (reached-room _ _ _ c.self.invariant c.args.site.inside c.args.site.small)
-
-pub returns-then-old-lt-WAITS : goal.returns-then-old-lt-WAITS
-unfolding reached
-returns-then-old-lt-WAITS c = rw (← c.self.view_is) (simp (ne_eqb _ _ c.if-joined-before.false, lt-ltb _ _ c.if-old-lt-WAITS.true))
-
-pub returns-else-old-lt-WAITS : goal.returns-else-old-lt-WAITS
-unfolding reached
-returns-else-old-lt-WAITS c = rw (← c.self.view_is) (simp (ne_eqb _ _ c.if-joined-before.false, le-ltb _ _ c.if-old-lt-WAITS.false))

@@ -1,4 +1,5 @@
-// The sixteen fields of a sample.
+// The sixteen fields of a sample, as the C interface lends them. Neither the array nor `Sample` is of this crate,
+// so that no `From` between them can stand here.
 ghost use Rattle.std.specs.Prelude.{◌≡◌};
 ghost use Rattle.board_events.specs.Events as spec;
 

@@ -41,7 +41,8 @@ fn put_tick(image: &mut [u32; REGISTERS])
         count: get::<Count>(image),
         timed: get::<Timed>(image),
     };
-    set::<Count>(image, wait.ticked().count);
+    let later = wait.ticked();
+    set::<Count>(image, later.count);
 }
 
 // 10 ms more.

@@ -3,12 +3,12 @@ ghost use Rattle.std.specs.Prelude.{◌<◌, ◌≡◌, pos, get_or};
 ghost use Rattle.words.specs.Word.{word};
 ghost use Rattle.flags.specs.Flags.{raised_flag};
 ghost use Rattle.reg_image.specs.Rows as rows;
-ghost use Rattle.reg_image.specs.Image.{Leaves};
+ghost use Rattle.reg_image.specs.Image.{registers_of, Leaves};
 ghost use Rattle.board_events.specs.Events as spec;
 ghost use Rattle.board_events.specs.Parts as parts;
 
 use crate::carried::signals_of;
-use reg_image::{Analog, Digital, Eal, Edv, Epo, REGISTERS, Value, get, set, set_at};
+use reg_image::{Analog, Digital, Eal, Edv, Epo, REGISTERS, Register, Value, get, set, set_at};
 use words::Word;
 
 fn field(fields: &[i32; 16], at: usize) -> Word
@@ -25,18 +25,22 @@ fn raised_flag(alarm: bool, flag: u32) -> u32
     if alarm { 1 } else { flag }
 }
 
+// One of the three after its alarm.
+fn raise<R: Register<Value = u32>>(image: &mut [u32; REGISTERS], alarm: bool)
+    ensures { Leaves (R.with (raised_flag alarm (R.read (registers_of image.old)))) image.old image.new }
+{
+    let flag = raised_flag(alarm, get::<R>(image));
+    set::<R>(image, flag);
+}
+
 // EAL, EDV and EPO.
 pub(crate) fn alarms(image: &mut [u32; REGISTERS], fields: &[i32; 16])
     ensures { Leaves (parts.alarmed (spec.signals_of fields.now)) image.old image.new }
 {
-    let signals = signals_of(fields);
-    let alarms = signals.alarms();
-    let eal = raised_flag(alarms.eal, get::<Eal>(image));
-    let edv = raised_flag(alarms.edv, get::<Edv>(image));
-    let epo = raised_flag(alarms.epo, get::<Epo>(image));
-    set::<Eal>(image, eal);
-    set::<Edv>(image, edv);
-    set::<Epo>(image, epo);
+    let alarms = signals_of(fields).alarms();
+    raise::<Eal>(image, alarms.eal);
+    raise::<Edv>(image, alarms.edv);
+    raise::<Epo>(image, alarms.epo);
 }
 
 // The digital and the analog inputs.

@@ -5,32 +5,29 @@
 mod reason;
 mod unread;
 
-use checking::Verdict;
+use checking::Fault;
 use points::Point;
 use reason::reason;
 use status::Status;
-use std::fmt::Display;
 use std::fs;
 use std::rt::{Env, Files};
-use streams::Spelled;
+use streams::{Spelled, put, say};
 use unread::Unread;
 use wire::command_in;
 
 // One byte more than a program store has, so that a longer image is seen to be one.
 const MOST: usize = 7169;
 
-// A line. Where standard output takes no more, it is lost and the program goes on.
-fn say(rt: &impl Print, line: impl Display + Drop) {
-    let _ = rt.println(line);
-}
-
 // Where a program is refused and why, and the record that stands there.
 fn tell_refusal(rt: &impl Print, image: &[u8], point: Point, status: Status) {
-    let _ = print!(rt;
-        "refused at address {}, depth {}, status {}: ",
-        point.address,
-        point.depth,
-        status.number()
+    put(
+        rt,
+        format_args!(
+            "refused at address {}, depth {}, status {}: ",
+            point.address,
+            point.depth,
+            u8::from(status)
+        ),
     );
     match image.chunks_exact(7).nth(usize::from(point.address)) {
         Some(record) => {
@@ -43,9 +40,9 @@ fn tell_refusal(rt: &impl Print, image: &[u8], point: Point, status: Status) {
 
 fn tell_verdict(rt: &impl Print, image: &[u8]) {
     match checking::check(image) {
-        Verdict::Passed => say(rt, "passed"),
-        Verdict::Length => say(rt, "20: has another length than 7168 bytes"),
-        Verdict::Refused(point, status) => tell_refusal(rt, image, point, status),
+        Ok(()) => say(rt, "passed"),
+        Err(Fault::Length) => say(rt, "20: has another length than 7168 bytes"),
+        Err(Fault::Bad(point, status)) => tell_refusal(rt, image, point, status),
     }
 }
 
@@ -72,19 +69,21 @@ fn tell_image(rt: &(impl Files + Print), name: &[u8]) {
     }
 }
 
+fn argument<'r>(rt: &impl Env, place: usize, room: &'r mut [u8; 4096]) -> Result<&'r [u8], Unread> {
+    let length = rt.arg(place, room)?;
+    Ok(&room[..length])
+}
+
 // The line for the image that an argument names. It begins with the name where there are more images.
 fn answer(rt: &(impl Env + Files + Print), place: usize, is_named: bool) {
     let mut room = [0u8; 4096];
-    let given = rt
-        .arg(place, &mut room)
-        .map_err(|error| Unread::from(error));
+    let given = argument(rt, place, &mut room);
     if is_named {
-        let length = given.unwrap_or(0);
-        let _ = rt.write_all(&room[..length]);
+        let _ = rt.write_all(given.unwrap_or(&[]));
         let _ = rt.write_all(b": ");
     }
     match given {
-        Ok(length) => tell_image(rt, &room[..length]),
+        Ok(name) => tell_image(rt, name),
         Err(unread) => say(rt, unread),
     }
 }

@@ -3,7 +3,8 @@ use status::Status;
 use wire::Command;
 
 // Which of motor, bank, value and target is wrong, by what the command takes. A wrong motor and a wrong bank
-// are judged before a wrong value.
+// are judged before a wrong value. Commands are told apart by number, as `wire` has them: their bytes may be
+// of no command.
 fn wrong_field(command: Command) -> &'static str {
     match (command.number, command.kind, command.motor) {
         (15, _, _) => "wrong bank",

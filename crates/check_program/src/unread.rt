@@ -27,7 +27,8 @@ impl From<io::Error> for Unread {
     }
 }
 
-// Linux's numbers of what is told by name.
+// Linux's numbers of what is told by name. They stay numbers, since std's `ErrorKind` has none for 5 and
+// one for both 13 and 1, which is not told by name.
 const NO_ENTRY: i32 = 2;
 
 const IO: i32 = 5;

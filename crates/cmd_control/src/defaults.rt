@@ -4,7 +4,7 @@ ghost use Rattle.reg_image.specs.Image.{registers_of, Leaves};
 ghost use Rattle.cmd_control.specs.Carried.{Carries};
 ghost use Rattle.cmd_control.specs.Defaults as spec;
 
-use reg_image::REGISTERS;
+use reg_image::{REGISTERS, Value, set_at};
 use registers::Order;
 use words::Word;
 
@@ -13,9 +13,8 @@ fn default_value(image: &mut [u32; REGISTERS], place: usize)
     ensures { Leaves (spec.defaulted place) image.old image.new }
 {
     let row = sheet::row_at(place);
-    let access = row.access;
-    if access.writes() {
-        reg_image::set_value(image, place, row.standard);
+    if row.access.writes() {
+        set_at::<Value>(image, place, row.standard);
     }
 }
 
@@ -23,10 +22,8 @@ fn default_value(image: &mut [u32; REGISTERS], place: usize)
 fn default_values(image: &mut [u32; REGISTERS])
     ensures { Leaves (spec.all_defaulted 103) image.old image.new }
 {
-    let mut place = 0;
-    while place < 103 {
+    for place in 0..sheet::VALUES {
         default_value(image, place);
-        place += 1;
     }
 }
 

@@ -4,13 +4,13 @@ ghost use Rattle.std.specs.Prelude.{◌≤◌, length};
 use crate::bracket::Outside;
 use crate::mnemonic::Mnemonic;
 use crate::names;
-use crate::print::say;
-use crate::tilt::command;
+use crate::tilt::{RECORDS, command};
 use crate::trace::{Moment, Seen};
 use display::Unread;
 use reg_image::REGISTERS;
+use status::{Misfit, Status};
 use std::fmt;
-use streams::Spelled;
+use streams::{Spelled, say};
 use wire::Command;
 
 // A command as the display sends it to address 1, and what comes back.
@@ -19,7 +19,7 @@ struct Exchange {
     sent: Command,
     frame: [u8; 9],
     reply: [u8; 9],
-    status: u8,
+    answered: Result<Option<Status>, Misfit>,
 }
 
 impl fmt::Display for Exchange {
@@ -61,7 +61,7 @@ impl Bench {
     // A new board, without power yet.
     pub(crate) fn new() -> Bench {
         let mut cells = [0u8; 364];
-        board_events::new_cells(&mut cells);
+        let _ = board_events::new_cells(&mut cells);
         Bench {
             image: [0; REGISTERS],
             program: [0; 7168],
@@ -73,8 +73,8 @@ impl Bench {
     fn exchange(&mut self, sent: Command) -> Exchange {
         let mut frame = [0u8; 9];
         let mut reply = [0u8; 9];
-        display::build_command(&mut frame, 1, sent);
-        let status = board_datagrams::datagram(
+        let _ = display::build_command(&mut frame, 1, sent);
+        let answered = board_datagrams::datagram(
             &mut self.image,
             &mut self.program,
             &mut self.cells,
@@ -85,7 +85,7 @@ impl Bench {
             sent,
             frame,
             reply,
-            status,
+            answered,
         }
     }
 
@@ -94,13 +94,14 @@ impl Bench {
         say(rt, self.exchange(sent));
     }
 
-    // The first records of a listed program, through download mode: the first and the last one are told.
-    pub(crate) fn load(&mut self, rt: &impl Print, listed: &[u8; 7168], count: usize) {
-        let last = count.saturating_sub(1);
+    // The tilt program, through download mode: the first and the last record are told.
+    pub(crate) fn load(&mut self, rt: &impl Print, listed: &[u8; 7168]) {
+        let last = RECORDS - 1;
         self.send(rt, command(names::START_DOWNLOAD, 0, 0, 0));
         self.send(rt, store::record_at(listed, 0));
         let stored = (1..last)
-            .filter(|&at| self.exchange(store::record_at(listed, at)).status == 101)
+            .filter(|&at| self.exchange(store::record_at(listed, at)).answered
+                == Ok(Some(Status::Stored)))
             .count();
         say(
             rt,
@@ -124,8 +125,8 @@ impl Bench {
         let has_moved = position != self.outside.position;
         self.outside.position = position;
         let fields = self.outside.sample(&self.image);
-        board_events::sample(&mut self.image, &fields);
-        board_runs::run(&mut self.image, &self.program, &mut self.cells, 1000);
+        let _ = board_events::sample(&mut self.image, &fields);
+        let _ = board_runs::run(&mut self.image, &self.program, &mut self.cells, 1000);
         let moment = Moment {
             time: self.outside.time,
             before,
@@ -135,7 +136,7 @@ impl Bench {
         if is_due(moment.time, before, Seen::of(&self.image), has_moved) {
             say(rt, moment);
         }
-        board_events::tick(&mut self.image);
+        let _ = board_events::tick(&mut self.image);
         self.outside.time = self.outside.time.wrapping_add(1);
     }
 
@@ -148,8 +149,8 @@ impl Bench {
 
     // Ignition off and on: the working values go, the cells stay.
     pub(crate) fn ignite(&mut self, rt: &impl Print) {
-        board_events::power_up(&mut self.image, &self.cells);
-        if reg_image::running(&self.image) {
+        let _ = board_events::power_up(&mut self.image, &self.cells);
+        if reg_image::get::<reg_image::Running>(&self.image) {
             say(
                 rt,
                 "Ignition on: global 77 is 1, so the program runs by itself.",

@@ -20,11 +20,11 @@ pub(crate) struct Outside {
 
 // An axis parameter, by its number.
 pub(crate) fn parameter(image: &[u32; REGISTERS], number: u8) -> i32 {
-    reg_image::value(image, places::axis_place(number)).v
+    reg_image::get_at::<reg_image::Value>(image, places::axis_place(number)).v
 }
 
 // How far the bracket goes in 10 ms at a velocity; it has no way below 0.
-fn way(velocity: i32) -> i32 {
+fn way_at(velocity: i32) -> i32 {
     velocity.max(0) / 100
 }
 
@@ -42,11 +42,15 @@ impl Outside {
     // The position 10 ms on under the board's order: at a velocity to the right, or to the target position
     // at the speed limit, and not past it.
     pub(crate) fn moved(&self, image: &[u32; REGISTERS]) -> i32 {
-        match reg_image::motion_order(image) {
-            Order::Velocity => raised(self.position, way(reg_image::velocity(image).v), TOP),
+        match reg_image::get::<reg_image::MotionOrder>(image) {
+            Order::Velocity => raised(
+                self.position,
+                way_at(reg_image::get::<reg_image::Velocity>(image).v),
+                TOP,
+            ),
             Order::Position => {
                 let target = parameter(image, names::TARGET_POSITION).max(0);
-                let way = way(parameter(image, names::SPEED_LIMIT));
+                let way = way_at(parameter(image, names::SPEED_LIMIT));
                 if self.position <= target {
                     raised(self.position, way, target)
                 } else {
@@ -59,7 +63,10 @@ impl Outside {
 
     fn is_at_target(&self, image: &[u32; REGISTERS]) -> bool {
         let target = parameter(image, names::TARGET_POSITION);
-        matches!(reg_image::motion_order(image), Order::Position) && target == self.position
+        matches!(
+            reg_image::get::<reg_image::MotionOrder>(image),
+            Order::Position
+        ) && target == self.position
     }
 
     // What the board measures: positions, the reached flag, three switches, supply voltage, temperature,

@@ -6,13 +6,12 @@ mod bench;
 mod bracket;
 mod mnemonic;
 mod names;
-mod print;
 mod tilt;
 mod trace;
 
 use bench::Bench;
 use bracket::Outside;
-use print::{put, say};
+use streams::{put, say};
 use tilt::{Checked, command};
 
 // The program as listed, and with one mistake in it.
@@ -49,7 +48,7 @@ fn show_loading(rt: &impl Print, bench: &mut Bench, listed: &[u8; 7168]) {
         "\n3. A new board is loaded: nine bytes there, nine bytes back",
     );
     bench.ignite(rt);
-    bench.load(rt, listed, tilt::RECORDS);
+    bench.load(rt, listed);
     bench.send(rt, command(names::READ_PROGRAM, 1, 0, 9));
     say(rt, "  1507328 is 23 x 65536: the record at 9 is CSUB.");
     say(

@@ -1,4 +1,5 @@
-// Numbers of commands and their types, and of parameters, by their names.
+// Numbers of commands and their types, and of parameters, by their names. They stay numbers, since a
+// `Command` of `wire` is bytes that may be of no command, and the trace names it by the record as it stands.
 pub(crate) const ROR: u8 = 1;
 
 pub(crate) const MST: u8 = 3;

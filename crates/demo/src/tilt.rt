@@ -1,9 +1,9 @@
 // The tilt program: its records put into a program store and listed, with what each is there for.
 use crate::mnemonic::Mnemonic;
 use crate::names;
-use crate::print::say;
-use checking::Verdict;
+use checking::Fault;
 use std::fmt;
+use streams::say;
 use wire::Command;
 use words::Word;
 
@@ -115,14 +115,14 @@ impl fmt::Display for Checked<'_> {
     fn fmt<W: fmt::Write>(&self, f: &mut fmt::Formatter<W>) -> fmt::Result {
         let program = self.0;
         match checking::check(program) {
-            Verdict::Passed => write!(f, "passed"),
-            Verdict::Length => write!(f, "of another length"),
-            Verdict::Refused(point, status) => write!(
+            Ok(()) => write!(f, "passed"),
+            Err(Fault::Length) => write!(f, "of another length"),
+            Err(Fault::Bad(point, status)) => write!(
                 f,
                 "refused at address {}, depth {}, status {}",
                 point.address,
                 point.depth,
-                status.number()
+                u8::from(status)
             ),
         }
     }

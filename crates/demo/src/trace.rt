@@ -22,18 +22,18 @@ pub(crate) struct Seen {
 impl Seen {
     pub(crate) fn of(image: &[u32; REGISTERS]) -> Seen {
         Seen {
-            up: reg_image::digital(image, 0) != 0,
-            down: reg_image::digital(image, 1) != 0,
+            up: reg_image::get_at::<reg_image::Digital>(image, 0) != 0,
+            down: reg_image::get_at::<reg_image::Digital>(image, 1) != 0,
             right: parameter(image, names::RIGHT_SWITCH) != 0,
             reached: parameter(image, names::REACHED) != 0,
-            eto: reg_image::eto(image) != 0,
-            motor: match reg_image::motion_order(image) {
+            eto: reg_image::get::<reg_image::Eto>(image) != 0,
+            motor: match reg_image::get::<reg_image::MotionOrder>(image) {
                 Order::Stopped => "the motor stops; ",
                 Order::Velocity => "the motor turns; ",
                 Order::Position => "the motor goes to a position; ",
             },
-            output_0: reg_image::output(image, 0) != 0,
-            output_1: reg_image::output(image, 1) != 0,
+            output_0: reg_image::get_at::<reg_image::Output>(image, 0) != 0,
+            output_1: reg_image::get_at::<reg_image::Output>(image, 1) != 0,
         }
     }
 }
@@ -54,23 +54,28 @@ struct Happened(Seen, Seen);
 impl fmt::Display for Happened {
     fn fmt<W: fmt::Write>(&self, f: &mut fmt::Formatter<W>) -> fmt::Result {
         let Happened(a, b) = self;
-        let right = ("right limit switch on; ", "right limit switch off; ");
-        let eto = ("ETO set: the wait ran out; ", "ETO cleared; ");
-        f.write_str(turned(a.up, b.up, "tilt up pressed; ", "tilt up released; "))?;
-        f.write_str(turned(
+        let up = turned(a.up, b.up, "tilt up pressed; ", "tilt up released; ");
+        let down = turned(
             a.down,
             b.down,
             "tilt down pressed; ",
             "tilt down released; ",
-        ))?;
-        f.write_str(turned(a.right, b.right, right.0, right.1))?;
-        f.write_str(turned(a.reached, b.reached, "position reached; ", ""))?;
-        f.write_str(turned(a.eto, b.eto, eto.0, eto.1))?;
-        if a.motor != b.motor {
-            f.write_str(b.motor)?;
-        }
-        f.write_str(turned(a.output_0, b.output_0, "output 0 on; ", "output 0 off; "))?;
-        f.write_str(turned(a.output_1, b.output_1, "output 1 on; ", "output 1 off; "))
+        );
+        let right = turned(
+            a.right,
+            b.right,
+            "right limit switch on; ",
+            "right limit switch off; ",
+        );
+        let reached = turned(a.reached, b.reached, "position reached; ", "");
+        let eto = turned(a.eto, b.eto, "ETO set: the wait ran out; ", "ETO cleared; ");
+        let motor = if a.motor == b.motor { "" } else { b.motor };
+        let output_0 = turned(a.output_0, b.output_0, "output 0 on; ", "output 0 off; ");
+        let output_1 = turned(a.output_1, b.output_1, "output 1 on; ", "output 1 off; ");
+        write!(
+            f,
+            "{up}{down}{right}{reached}{eto}{motor}{output_0}{output_1}"
+        )
     }
 }
 
@@ -80,8 +85,12 @@ struct Ordered<'a>(&'a [u32; REGISTERS]);
 
 impl fmt::Display for Ordered<'_> {
     fn fmt<W: fmt::Write>(&self, f: &mut fmt::Formatter<W>) -> fmt::Result {
-        match reg_image::motion_order(self.0) {
-            Order::Velocity => write!(f, "velocity {}", reg_image::velocity(self.0).v),
+        match reg_image::get::<reg_image::MotionOrder>(self.0) {
+            Order::Velocity => write!(
+                f,
+                "velocity {}",
+                reg_image::get::<reg_image::Velocity>(self.0).v
+            ),
             Order::Position => write!(f, "position {}", parameter(self.0, names::TARGET_POSITION)),
             Order::Stopped => write!(f, "stopped"),
         }
@@ -100,14 +109,22 @@ pub(crate) struct Moment<'a> {
 impl Moment<'_> {
     // Where the program stands, and what of a wait is left.
     fn write_place<W: fmt::Write>(&self, f: &mut fmt::Formatter<W>) -> fmt::Result {
-        let address = reg_image::address(self.image);
+        let address = reg_image::get::<reg_image::Address>(self.image);
         let program = self.program;
         let record = store::record_at(program, address as usize);
         write!(f, "; at {address} {}", Mnemonic(record))?;
-        if reg_image::armed(self.image) {
-            write!(f, ", ticks left {}", reg_image::count(self.image))?;
+        if reg_image::get::<reg_image::Armed>(self.image) {
+            write!(
+                f,
+                ", ticks left {}",
+                reg_image::get::<reg_image::Count>(self.image)
+            )?;
         }
-        write!(f, ", depth {}", reg_image::depth(self.image))
+        write!(
+            f,
+            ", depth {}",
+            reg_image::get::<reg_image::Depth>(self.image)
+        )
     }
 }
 
@@ -122,7 +139,11 @@ impl fmt::Display for Moment<'_> {
             "  tick {time}: {happened}position {position}, order {order}, outputs "
         )?;
         for port in 0..4 {
-            write!(f, "{}", reg_image::output(self.image, port))?;
+            write!(
+                f,
+                "{}",
+                reg_image::get_at::<reg_image::Output>(self.image, port)
+            )?;
         }
         self.write_place(f)
     }

@@ -6,6 +6,7 @@ use mathlib.Core.Bool.{Bool, true, false, false≢true}
 use mathlib.Core.List.{List, [], ◌∷◌}
 use lib.Dec.{eqb}
 use lib.ListN.{length}
+use Rattle.std.proofs.Common.{Ok, Err}
 use borrow.Author.Tests.{eqb-true, eq-eqb}
 use Rattle.words.proofs.Bools.{each}
 use Rattle.status.specs.Status.{number_of}
@@ -18,8 +19,8 @@ use Rattle.rules.specs.Datagram.{lent}
 use Rattle.leading.specs.Laws as leading
 use Rattle.leading.proofs.Ways as ways
 use Rattle.checking.specs.Check as checking
-use Rattle.checking.specs.declared.Verdict.{Verdict}
-use Rattle.checking.specs.declared.Verdict.TheVariants.{Length, Passed, Refused}
+use Rattle.checking.specs.Check.{Verdict, Passed}
+use Rattle.checking.specs.declared.Fault.TheVariants.{Length, Bad}
 use Rattle.numbered.specs.Check.{Checks}
 use Rattle.numbered.specs.declared.Checked.{Checked}
 use Rattle.safety.specs.Events.{World, world, after, after_all, begins_program}
@@ -50,9 +51,9 @@ the_ways : leading.Laws
 the_ways = ways.laws
 
 right : (program : List ℕ) (v : Verdict) → checking.Right program v → (checking.answer_of v).number ≡ 100 → checking.Right program Passed
-right program Length r e = absurd (omega (arith, e))
-right program Passed r e = r
-right program (Refused p s) r e =
+right program (Ok _) r e = r
+right program (Err Length) r e = absurd (omega (arith, e))
+right program (Err (Bad p s)) r e =
     absurd ((the_ways.bad_status program p s r.1.bad).1 (is-done s (sym (number-done s) ∙ eq-eqb (number_of s) 100 e)))
 
 check-passed : (program : List ℕ) (c : Checked) → Checks program c → c.status ≡ 100

@@ -12,6 +12,9 @@ pub use program::{run, step_alone};
 use status::Status;
 use words::Word;
 
+// The bytes of a program.
+const PROGRAM: usize = 7168;
+
 // What a step leaves beside the image and the store.
 #[derive(Clone, Copy)]
 pub struct Stepped {

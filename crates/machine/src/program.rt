@@ -1,5 +1,5 @@
 // The steps of a program, from the registers as an image has them to the registers as they are left.
-ghost use Rattle.std.specs.Prelude.{◌<◌, ◌≤◌, ◌≡◌, length};
+ghost use Rattle.std.specs.Prelude.{◌<◌, ◌≡◌, length};
 ghost use Rattle.status.specs.declared.Status.TheVariants as status;
 ghost use Rattle.cmd_turns.specs.declared.Left.TheVariants as left;
 ghost use Rattle.cmd_turns.specs.Turn.{turn};
@@ -8,14 +8,13 @@ ghost use Rattle.machine.specs.Steps.{going};
 ghost use Rattle.machine.specs.Alone as spec;
 
 use crate::steps::go;
-use crate::{Gone, Made};
+use crate::{Gone, Made, PROGRAM};
 use cmd_turns::{Left, drop_wait};
 use reg_image::{Accumulator, Address, REGISTERS, Running};
 use status::Status;
 
 // Whether the record at an address is a WAIT.
-fn is_wait(address: u32, program: &[u8]) -> bool
-    requires { 7168 ≤ length program.now }
+fn is_wait(address: u32, program: &[u8; PROGRAM]) -> bool
     ensures { result ≡ spec.is_wait program.now address }
 {
     if address < 1024 {
@@ -27,8 +26,7 @@ fn is_wait(address: u32, program: &[u8]) -> bool
 
 // Any step that is not a WAIT drops the wait. A step that leaves one armed ends the run, so only the first
 // step can find one, and it is dropped here.
-fn begin(image: &mut [u32; REGISTERS], program: &[u8])
-    requires { 7168 ≤ length program.now }
+fn begin(image: &mut [u32; REGISTERS], program: &[u8; PROGRAM])
     ensures { Leaves (spec.readied program.now) image.old image.new }
 {
     let address = reg_image::get::<Address>(image);
@@ -55,8 +53,12 @@ fn finish(image: &mut [u32; REGISTERS], gone: Gone)
 }
 
 // Steps of the 1,024 records, at most so many.
-fn walk(image: &mut [u32; REGISTERS], store: &mut [u8], program: &[u8], budget: usize) -> Gone
-    requires { length program.now ≡ 7168 }
+fn walk(
+    image: &mut [u32; REGISTERS],
+    store: &mut [u8],
+    program: &[u8; PROGRAM],
+    budget: usize,
+) -> Gone
     ensures { spec.Walks (going program.now 0 1024 budget (turn (spec.readied program.now (registers_of image.old)) store.old status.Done left.Goes)) image.old result image.new store.new }
 {
     begin(image, program);
@@ -71,27 +73,26 @@ fn walk(image: &mut [u32; REGISTERS], store: &mut [u8], program: &[u8], budget: 
 pub fn step_alone(image: &mut [u32; REGISTERS], store: &mut [u8], program: &[u8]) -> Status
     ensures { (length program.now ≡ 7168 → spec.StepsAlone program.now image.old store.old result image.new store.new) × ((length program.now ≡ 7168 → ⊥) → (result ≡ status.Done) × spec.Stays image.old store.old image.new store.new) }
 {
-    if program.len() != 7168 {
-        return Status::Done;
+    match <&[u8; PROGRAM]>::try_from(program) {
+        Ok(records) => walk(image, store, records, 1).status,
+        Err(_) => Status::Done,
     }
-    let gone = walk(image, store, program, 1);
-    gone.status
 }
 
 // The steps of a run. One that has nothing to do ends before it looks at anything else.
 pub fn run(image: &mut [u32; REGISTERS], store: &mut [u8], program: &[u8], budget: usize) -> Made
     ensures { (length program.now ≡ 7168 → spec.Runs program.now budget image.old store.old result image.new store.new) × ((length program.now ≡ 7168 → ⊥) → (result ≡ spec.none_made) × spec.Stays image.old store.old image.new store.new) }
 {
-    if program.len() != 7168 {
+    let Ok(records) = <&[u8; PROGRAM]>::try_from(program) else {
         return none_made();
-    }
+    };
     if !reg_image::get::<Running>(image) {
         return none_made();
     }
     if budget == 0 {
         return none_made();
     }
-    let gone = walk(image, store, program, budget);
+    let gone = walk(image, store, records, budget);
     let status = gone.status;
     Made {
         status: status,

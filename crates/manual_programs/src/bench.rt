@@ -1,61 +1,65 @@
-// The board on the bench: the image of its registers, its memory, and each of its events with the line
-// that tells of it.
+// The board on the bench: the image of its registers, its memory, the buffer of its replies, and each of
+// its events with the status that answers it.
+use checking::Fault;
+use machine::Made;
 use reg_image::REGISTERS;
-use wire::Command;
+use status::{Misfit, Status};
 
-fn clear(memory: &mut [u8]) {
-    memory.fill(0);
+#[derive(Drop)]
+pub(crate) struct Bench {
+    pub(crate) image: [u32; REGISTERS],
+    program: [u8; 7168],
+    cells: [u8; 364],
+    pub(crate) reply: [u8; 9],
 }
 
-// A board with no program and default cells, powered up.
-pub(crate) fn fresh(image: &mut [u32; REGISTERS], program: &mut [u8], cells: &mut [u8]) {
-    clear(program);
-    board_events::new_cells(cells);
-    board_events::power_up(image, cells);
-}
-
-// A command as the display sends it to address 1, and the line that tells of it begun.
-pub(crate) fn sent(rt: &impl Print, line: &[u8], words_at: usize, command: Command) -> [u8; 9] {
-    let mut frame = [0u8; 9];
-    let _ = display::build_command(&mut frame, 1, command);
-    crate::print::command(rt, line, words_at, &frame);
-    frame
-}
-
-// A datagram, and the reply to it.
-pub(crate) fn tell(
-    rt: &impl Print,
-    image: &mut [u32; REGISTERS],
-    program: &mut [u8],
-    cells: &mut [u8],
-    reply: &mut [u8; 9],
-    frame: &[u8],
-) {
-    let status = board_datagrams::datagram(image, program, cells, reply, frame);
-    crate::print::answer(rt, status, reply);
-}
-
-pub(crate) fn run(
-    rt: &impl Print,
-    image: &mut [u32; REGISTERS],
-    program: &[u8],
-    cells: &mut [u8],
-    budget: usize,
-) {
-    let ran = board_runs::run(image, program, cells, budget);
-    crate::print::ran(rt, ran.steps, ran.status, image);
-}
-
-pub(crate) fn measure(rt: &impl Print, image: &mut [u32; REGISTERS], fields: &[i32; 16]) {
-    let status = board_events::sample(image, fields);
-    crate::print::measured(rt, status, image);
-}
-
-// So many ticks, and the last one's status.
-pub(crate) fn ticks(rt: &impl Print, image: &mut [u32; REGISTERS], count: usize) {
-    let mut status = 100;
-    for _ in 0..count {
-        status = board_events::tick(image);
+impl Bench {
+    // A board that was never powered.
+    pub(crate) fn new() -> Self {
+        Bench {
+            image: [0; REGISTERS],
+            program: [0; 7168],
+            cells: [0; 364],
+            reply: [0; 9],
+        }
     }
-    crate::print::ticked(rt, count, status, image);
+
+    // No program and default cells, powered up.
+    pub(crate) fn renew(&mut self) {
+        self.program.fill(0);
+        let _ = board_events::new_cells(&mut self.cells);
+        let _ = board_events::power_up(&mut self.image, &self.cells);
+    }
+
+    // A datagram, replied to in the buffer.
+    pub(crate) fn datagram(&mut self, frame: &[u8]) -> Result<Option<Status>, Misfit> {
+        board_datagrams::datagram(
+            &mut self.image,
+            &mut self.program,
+            &mut self.cells,
+            &mut self.reply,
+            frame,
+        )
+    }
+
+    pub(crate) fn check(&self) -> Result<(), Fault> {
+        checking::check(&self.program)
+    }
+
+    pub(crate) fn run(&mut self, budget: usize) -> Result<Made, Misfit> {
+        board_runs::run(&mut self.image, &self.program, &mut self.cells, budget)
+    }
+
+    pub(crate) fn sample(&mut self, fields: &[i32; 16]) -> Result<(), Misfit> {
+        board_events::sample(&mut self.image, fields)
+    }
+
+    // So many ticks, and what came of the last one.
+    pub(crate) fn ticks(&mut self, count: usize) -> Result<(), Misfit> {
+        let mut last = Ok(());
+        for _ in 0..count {
+            last = board_events::tick(&mut self.image);
+        }
+        last
+    }
 }

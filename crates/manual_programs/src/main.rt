@@ -3,109 +3,72 @@
 // script on standard input says what is done, a line for each event; each line is answered by one.
 #![tactic(auto)]
 
-ghost use Rattle.std.specs.Prelude.{◌≤◌, max, length};
-
 mod bench;
 mod print;
 mod script;
 
-use reg_image::REGISTERS;
+use bench::Bench;
 use script::Line;
 use std::io;
-use std::num::wrapping_add_u64;
+use wire::Command;
 
 // One byte more than a script may have, so that a longer one is seen to be one.
 const MOST: usize = 65536;
 
-// Where the line that begins at a place ends: at its line feed, or at the script's end.
-fn line_end(script: &[u8], from: usize) -> usize
-    ensures { (from ≤ result) × (result ≤ max from (length script.now)) }
-{
-    if script.len() <= from {
-        return from;
-    }
-    match script[from..].iter().position(|b| *b == b'\n') {
-        Some(ahead) => from + ahead,
-        None => script.len(),
-    }
-}
-
-// A line that leaves the board as it is.
-fn aside(rt: &impl Print, read: Line, program: &[u8], line: &[u8], number: u64) {
-    match read {
-        Line::Remark => print::remark(rt, line),
-        Line::Check => print::verdict(rt, checking::check(program)),
-        _ => print::unknown(rt, number),
-    }
+// A command as the display sends it to address 1, and the reply to it.
+fn tell(rt: &impl Print, bench: &mut Bench, command: Command, name: &[u8]) {
+    let mut frame = [0; 9];
+    let _ = display::build_command(&mut frame, 1, command);
+    print::command(rt, name, &frame);
+    let answered = bench.datagram(&frame);
+    print::answer(rt, answered, &bench.reply);
 }
 
 // One line, and the number it has in the script.
-fn answer(
-    rt: &impl Print,
-    image: &mut [u32; REGISTERS],
-    program: &mut [u8; 7168],
-    cells: &mut [u8; 364],
-    reply: &mut [u8; 9],
-    line: &[u8],
-    number: u64,
-) {
-    let mut numbers = [0i32; 16];
-    let read = script::read(line, &mut numbers);
-    match read {
-        Line::Heading => {
-            print::heading(rt, line);
-            bench::fresh(image, program, cells);
+fn answer(rt: &impl Print, bench: &mut Bench, line: &[u8], number: u64) {
+    match script::read(line) {
+        Some(Line::Heading(words)) => {
+            print::heading(rt, words);
+            bench.renew();
         }
-        Line::Tell(words_at) => {
-            let frame = bench::sent(rt, line, words_at, script::command_of(&numbers));
-            bench::tell(rt, image, program, cells, reply, &frame);
+        Some(Line::Remark(words)) => print::remark(rt, words),
+        Some(Line::Tell(command, name)) => tell(rt, bench, command, name),
+        Some(Line::Check) => print::verdict(rt, bench.check()),
+        Some(Line::Run(budget)) => {
+            let ran = bench.run(budget);
+            print::ran(rt, ran, &bench.image);
         }
-        Line::Run => bench::run(rt, image, program, cells, script::amount_of(&numbers)),
-        Line::Measure => bench::measure(rt, image, &numbers),
-        Line::Ticks => bench::ticks(rt, image, script::amount_of(&numbers)),
-        _ => aside(rt, read, program, line, number),
+        Some(Line::Measure(fields)) => {
+            let measured = bench.sample(&fields);
+            print::measured(rt, measured, &bench.image);
+        }
+        Some(Line::Ticks(count)) => {
+            let ticked = bench.ticks(count);
+            print::ticked(rt, count, ticked, &bench.image);
+        }
+        None => print::unknown(rt, number),
     }
 }
 
 // The script, line by line, on one board after the other; a line before the first heading meets one
 // that was never powered.
-fn play(
-    rt: &impl Print,
-    script: &[u8],
-    program: &mut [u8; 7168],
-    cells: &mut [u8; 364],
-    reply: &mut [u8; 9],
-) {
-    let mut image = [0u32; REGISTERS];
-    let mut at = 0;
+fn play(rt: &impl Print, script: &[u8]) {
+    let mut bench = Bench::new();
     let mut number = 0u64;
-    while at < script.len() {
-        let from = at;
-        let end = line_end(script, from);
-        at = end + 1;
-        number = wrapping_add_u64(number, 1);
-        answer(
-            rt,
-            &mut image,
-            program,
-            cells,
-            reply,
-            &script[from..end],
-            number,
-        );
+    for line in script.split_inclusive(|b| *b == b'\n') {
+        number = number.wrapping_add(1);
+        let line = line.strip_suffix(b"\n").unwrap_or(line);
+        answer(rt, &mut bench, line, number);
     }
 }
 
 fn main(rt: HostRuntime) -> io::Result<()> {
-    let mut script = [0u8; MOST];
-    let n = streams::fill(&mut rt.reader(), &mut script)?;
-    if n == MOST {
+    let mut script = [0; MOST];
+    let count = streams::fill(&mut rt.reader(), &mut script)?;
+    if count == MOST {
         print::text(&rt, b"the script is too long: it may have 65535 bytes\n");
         return Ok(());
     }
-    let mut program = [0u8; 7168];
-    let mut cells = [0u8; 364];
-    let mut reply = [0u8; 9];
-    play(&rt, &script[..n], &mut program, &mut cells, &mut reply);
+    play(&rt, &script[..count]);
     Ok(())
 }

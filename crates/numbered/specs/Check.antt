@@ -1,8 +1,7 @@
 -- The check's numbers: those of the one verdict that is right for a program store.
 use Rattle.std.specs.Prelude.{◌≡◌, List, ℕ}
-use Rattle.checking.specs.Check.{answer_of, Right}
+use Rattle.checking.specs.Check.{Verdict, answer_of, Right}
 use Rattle.checking.specs.declared.Answer.{Answer}
-use Rattle.checking.specs.declared.Verdict.{Verdict}
 use Rattle.numbered.specs.declared.Checked.{Checked}
 
 abbrev pub numbers_of : Answer → Checked

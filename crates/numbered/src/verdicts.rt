@@ -1,18 +1,26 @@
 // The program check.
-ghost use Rattle.numbered.specs.Check.{Checks};
+ghost use Rattle.std.specs.Prelude.{◌≡◌};
+ghost use Rattle.numbered.specs.Check.{Checks, numbers_of};
+
+use checking::Answer;
 
 use crate::Checked;
+
+impl From<Answer> for Checked {
+    ghost from_gives = { λ answer checked. checked ≡ numbers_of answer };
+
+    fn from(answer: Answer) -> Checked {
+        Checked {
+            status: answer.number,
+            address: answer.point.address,
+            depth: answer.point.depth,
+        }
+    }
+}
 
 // A program store of any length, checked along every path.
 pub fn check(program: &[u8]) -> Checked
     ensures { Checks program.now result }
 {
-    let verdict = checking::check(program);
-    let answer = verdict.answer();
-    let point = answer.point;
-    Checked {
-        status: answer.number,
-        address: point.address,
-        depth: point.depth,
-    }
+    Answer::from(checking::check(program)).into()
 }

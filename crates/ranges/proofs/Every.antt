@@ -1,12 +1,10 @@
 -- Tests that hold of every element of a list. Assumes nothing.
-use Prim.Native.Nat.{ℕ, zero, suc, ◌+◌, ◌≤◌, ◌<◌}
-use mathlib.Core.Path.{◌≡◌, refl, sym, ◌∙◌}
-use mathlib.Core.Bool.{Bool, true, false}
+use Prim.Native.Nat.{ℕ, zero, suc}
+use mathlib.Core.Path.{◌≡◌, refl, ap}
+use mathlib.Core.Bool.{Bool, true, ◌&&◌}
 use mathlib.Core.List.{List, [], ◌∷◌}
-use native.Mathlib.Numerals.{add-one}
-use native.Mathlib.Omega.{arith}
-use lib.ListN.{length, get_or, set, drop, drop_of_length-le}
-use lib.Seq.{drop-cons}
+use lib.ListN.{get_or, set}
+use Rattle.std.specs.List.{list_all}
 use Rattle.words.proofs.Bools.{each}
 use Rattle.ranges.specs.Range.{every}
 
@@ -29,18 +27,7 @@ module _ {A : Type 0} (f : A → Bool) where
   every-each [] d h = refl
   every-each (x ∷ xs) d h = simp (h 0, every-each xs d (λ i. h (suc i)))
 
-  -- ---- a loop over a list: what is left from i on says what the whole list says
-  abbrev pub Left : List A → ℕ → Type 0
-  Left l i = (i ≤ length l) × (every f (drop i l) ≡ every f l)
-
-  module _ (l : List A) (i : ℕ) (d : A) (left : Left l i) where
-    pub passes : i < length l → f (get_or l i d) ≡ true → Left l (i + 1)
-    passes h t =
-        let e : every f (drop (i + 1) l) ≡ every f (drop i l) = rw (add-one i, drop-cons l i d h, t) in
-        (omega arith, e ∙ left.1)
-
-    pub fails : i < length l → f (get_or l i d) ≡ false → false ≡ every f l
-    fails h t = let e : every f (drop i l) ≡ false = rw (drop-cons l i d h, t) in sym e ∙ left.1
-
-    pub none_left : length l ≤ i → true ≡ every f l
-    none_left h = let e : every f (drop i l) ≡ true = rw (drop_of_length-le l h) in sym e ∙ left.1
+  -- ---- as the library says it
+  pub every-is : (l : List A) → list_all f l ≡ every f l
+  every-is [] = refl
+  every-is (x ∷ xs) = ap (λ (t : Bool). f x && t) (every-is xs)

@@ -19,7 +19,7 @@ ghost use Rattle.reg_image.specs.Image.{comparison, takes, shaped, registers_of}
 ghost use Rattle.reg_range.specs.Count.{Counts};
 ghost use Rattle.reg_range.specs.Range.{stands};
 
-use reg_image::{REGISTERS, at};
+use reg_image::{REGISTERS, Value, at, get_at};
 use words::Word;
 
 mod lent;
@@ -45,7 +45,7 @@ fn allowed_at(image: &[u32; REGISTERS], place: usize) -> bool
     requires { place < 103 }
     ensures { result ≡ allowed_at rows (registers_of image.now).values place }
 {
-    rows::allowed(sheet::row_at(place), reg_image::value(image, place))
+    rows::allowed(sheet::row_at(place), get_at::<Value>(image, place))
 }
 
 // An analog input, by its bits.

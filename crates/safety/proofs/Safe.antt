@@ -8,8 +8,7 @@ use Rattle.rules.specs.Step.{State}
 use Rattle.rules.specs.Run.{begun}
 use Rattle.rules.specs.Steps.{state_of, pins_of}
 use Rattle.leading.specs.Leading.{way_at}
-use Rattle.checking.specs.Check.{Checked, answer_of}
-use Rattle.checking.specs.declared.Verdict.TheVariants.{Passed}
+use Rattle.checking.specs.Check.{Passed, Checked, answer_of}
 use Rattle.safety.specs.Events.{World, Event, after, begins_program, after_all, Quiet, MakesStep}
 use Rattle.safety.specs.Safety.{Fine, Safety}
 use Rattle.safety.proofs.Named.{named}

@@ -10,8 +10,7 @@ use Rattle.rules.specs.Step.{State, Pins, step}
 use Rattle.rules.specs.Steps.{pins_of}
 use Rattle.points.specs.Points.{point}
 use Rattle.leading.specs.Leading.{status_at}
-use Rattle.checking.specs.Check.{Checked, answer_of}
-use Rattle.checking.specs.declared.Verdict.TheVariants.{Passed}
+use Rattle.checking.specs.Check.{Passed, Checked, answer_of}
 use Rattle.safety.specs.Events.{World, Event, after, begins_program, after_all, Quiet, MakesStep}
 use Rattle.safety.specs.Listed.{Listed}
 

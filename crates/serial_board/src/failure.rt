@@ -10,13 +10,17 @@ pub enum Failure<'a> {
 }
 
 impl Failure<'_> {
-    // A line on a stream. Where the stream takes no more, the line is lost.
+    // A line on a stream, with the name as it was given, which need not be text. Where the stream takes no
+    // more, the line is lost.
     pub fn tell(&self, stream: &impl Print) {
         match self {
             Failure::Length(name, length) => {
                 let _ = stream.write_all(b"20: ");
                 let _ = stream.write_all(name);
-                let _ = println!(stream; ": has another length than {length} bytes");
+                streams::say(
+                    stream,
+                    format_args!(": has another length than {length} bytes"),
+                );
             }
             Failure::Io(name, error) => streams::tell(stream, name, error),
         }

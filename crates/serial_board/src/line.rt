@@ -40,7 +40,7 @@ impl Board {
     // The board powered up on its stores.
     fn powered(program: [u8; PROGRAM], cells: [u8; CELLS]) -> Board {
         let mut image = [0u32; REGISTERS];
-        board_events::power_up(&mut image, &cells);
+        let _ = board_events::power_up(&mut image, &cells);
         Board {
             image,
             program,
@@ -51,23 +51,20 @@ impl Board {
     // The reply to a datagram, where there is one.
     fn reply_to(&mut self, frame: &[u8; 9]) -> Option<[u8; 9]> {
         let mut reply = [0u8; 9];
-        let status = board_datagrams::datagram(
+        let answered = board_datagrams::datagram(
             &mut self.image,
             &mut self.program,
             &mut self.cells,
             &mut reply,
             frame,
         );
-        match status {
-            0 | 20 | 23 => None,
-            _ => Some(reply),
-        }
+        matches!(answered, Ok(Some(_))).then_some(reply)
     }
 
     // A tick, and the steps that go into it.
     fn work(&mut self) {
-        board_events::tick(&mut self.image);
-        board_runs::run(&mut self.image, &self.program, &mut self.cells, STEPS);
+        let _ = board_events::tick(&mut self.image);
+        let _ = board_runs::run(&mut self.image, &self.program, &mut self.cells, STEPS);
     }
 }
 
@@ -87,7 +84,7 @@ impl<'a> Line<'a> {
         program: Option<ImageFile<'a>>,
     ) -> Result<Self, Failure<'a>> {
         let mut new_cells = [0u8; CELLS];
-        board_events::new_cells(&mut new_cells);
+        let _ = board_events::new_cells(&mut new_cells);
         let cells = Kept::taken(rt, cells, new_cells)?;
         let program = Kept::taken(rt, program, [0u8; PROGRAM])?;
         Ok(Line {

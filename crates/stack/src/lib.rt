@@ -16,6 +16,7 @@ pub struct Stack {
     pub depth: u8,
 }
 
+// What a pop hands back: 0 where no address was on the stack, as the law `pop_empty` has it, and no Option.
 #[derive(Clone, Copy)]
 pub struct Popped {
     pub stack: Stack,
@@ -40,7 +41,8 @@ fn entry_with(place: u8, entry: u16, at: u8, address: u16) -> u16
 }
 
 // The entries with an address at a place. All eight are made anew, which the compiler does in one
-// machine register; after a store of one of them, a load of all eight would wait for memory.
+// machine register; after a store of one of them, a load of all eight would wait for memory, and of
+// `array::from_fn` it makes a jump by the place.
 fn with_entry(entries: [u16; 8], at: u8, address: u16) -> [u16; 8]
     ensures { result ≡ set entries at address }
 {
@@ -56,7 +58,9 @@ fn with_entry(entries: [u16; 8], at: u8, address: u16) -> [u16; 8]
     ]
 }
 
-// Puts a return address on the stack, or hands the stack back as it was where it is full.
+// Puts a return address on the stack, or hands the stack back as it was where it is full. The eight entries
+// come by value beside their depth, as the paper passes them.
+#[tactic(auto, unfolding(crate::specs::Stack::pushed))]
 pub fn push(entries: [u16; 8], depth: u8, back: u16) -> Stack
     ensures { result ≡ pushed entries depth back }
 {
@@ -76,13 +80,13 @@ pub fn push(entries: [u16; 8], depth: u8, back: u16) -> Stack
 
 // Takes the last return address off the stack, whose entry becomes 0. Where there is none, or more
 // than eight are said to be in use, the stack comes back as it was, and 0.
+#[tactic(auto, unfolding(crate::specs::Stack::popped))]
 pub fn pop(entries: [u16; 8], depth: u8) -> Popped
     ensures { result ≡ popped entries depth }
 {
     if 0 < depth && depth <= 8 {
         let less = depth - 1;
-        let at = less as usize;
-        let back = entries[at];
+        let back = entries[usize::from(less)];
         Popped {
             stack: Stack {
                 entries: with_entry(entries, less, 0),

@@ -7,18 +7,11 @@ use native.Mathlib.Numerals.{add-one, add-two, add-three}
 use native.Mathlib.Omega.{arith}
 use borrow.Author.Tests.{le-leb, lt-leb, leb-true, leb-false}
 use lib.Dec.{leb}
-use lib.ListN.{length, get_or, set, drop, length-set, drop_of_length-le}
-use lib.Seq.{sets, length-sets, drop-cons, get_or-set_same, get_or-set_other}
+use lib.ListN.{length, get_or, set, length-set}
+use lib.Seq.{sets, length-sets, get_or-set_same, get_or-set_other}
 use Rattle.words.specs.Bytes.{put_four}
 use Rattle.words.specs.declared.Four.{Four}
 use Rattle.store.specs.Store.{written, four_bytes}
-
--- ---- the loop: what is left to write is written
-pub turn : (s bytes : List ℕ) (at i : ℕ) → i < length bytes → sets (set s (at + i) (get_or bytes i 0)) (at + (i + 1)) (drop (i + 1) bytes) ≡ sets s (at + i) (drop i bytes)
-turn s bytes at i h = let e : at + (i + 1) ≡ suc (at + i) = omega arith in rw (e, add-one i, drop-cons bytes i 0)
-
-pub none_left : (s bytes : List ℕ) (at i : ℕ) → length bytes ≤ i → sets s at (drop i bytes) ≡ s
-none_left s bytes at i h = rw (drop_of_length-le bytes h)
 
 -- ---- bytes that are written
 before : (bytes s : List ℕ) (at i : ℕ) → i < at → get_or (sets s at bytes) i 0 ≡ get_or s i 0

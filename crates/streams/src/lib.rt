@@ -1,11 +1,12 @@
 // What the programs that read and write share: bytes read until a room is full, how many arguments there
-// are, bytes spelled as digits, and the line that says what failed and why.
+// are, words put where they may be lost, bytes spelled as digits, and the line that says what failed and why.
 #![tactic(auto)]
 
 ghost use Rattle.std.specs.Prelude.{◌≤◌, IfOk, Some, length};
 ghost use Rattle.streams.specs.Spelled.{spelled};
 
 use std::env::FillError;
+use std::fmt::Display;
 use std::io::{Read, Write};
 use std::rt::Env;
 use std::{fmt, io};
@@ -36,7 +37,7 @@ pub fn argument_count(rt: &impl Env) -> usize {
 #[derive(Clone, Copy)]
 pub struct Spelled<'a>(pub &'a [u8]);
 
-impl fmt::Display for Spelled<'_> {
+impl Display for Spelled<'_> {
     ghost output = { λ s. Some (spelled s.0.now) };
 
     fn fmt<W: fmt::Write>(&self, f: &mut fmt::Formatter<W>) -> fmt::Result {
@@ -50,7 +51,18 @@ impl fmt::Display for Spelled<'_> {
     }
 }
 
-// The system's words of an error: as std prints them, they have its number behind them.
+// Words on a stream. Where it takes no more, they are lost and the program goes on.
+pub fn put(stream: &impl Print, words: impl Display + Drop) {
+    let _ = stream.print(words);
+}
+
+// The same, and the end of the line.
+pub fn say(stream: &impl Print, line: impl Display + Drop) {
+    let _ = stream.println(line);
+}
+
+// The system's words of an error: as std prints them, they have its number behind them, and what is left of
+// the room behind that is zeros.
 fn cause(said: &str) -> &str {
     match said.split_once(" (os error ") {
         Some((before, _)) => before,

@@ -3,8 +3,7 @@ use Rattle.std.specs.Prelude.{◌≡◌, [], ◌∷◌, pos, negsuc}
 use Rattle.words.specs.Word.{word}
 use Rattle.status.specs.declared.Status.TheVariants.{Unknown, Unavailable}
 use Rattle.points.specs.Points.{point}
-use Rattle.checking.specs.Check.{answer, Checked}
-use Rattle.checking.specs.declared.Verdict.TheVariants.{Passed, Refused}
+use Rattle.checking.specs.Check.{Passed, Refused, answer, Checked}
 use Rattle.table.specs.Begun.{reply_to, command, first, more, status_of}
 use Rattle.table.specs.Programs.{stopping, calling_itself, all_zero}
 

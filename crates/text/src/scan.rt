@@ -185,11 +185,18 @@ impl<'a> Words<'a> {
         Some(words)
     }
 
+    // What stands behind a space, to the end of the line.
+    pub fn rest(self) -> Option<&'a [u8]>
+        ensures { option_copied result ≡ behind_space self.entry }
+    {
+        behind_space(self.rest)
+    }
+
     // The bytes behind a space, 64 at most, which are the last word of the line. Answers how many they are.
     pub fn bytes(self, room: &mut [u8; 64]) -> Option<usize>
         ensures { Took (hex_at self.entry room.old) result room.new }
     {
-        let word = behind_space(self.rest)?;
+        let word = self.rest()?;
         if word == b"-".as_slice() {
             Some(0)
         } else {

@@ -4,11 +4,13 @@
 #![tactic(auto)]
 
 ghost use Rattle.std.specs.Prelude.{◌≤◌};
+ghost use Rattle.std.specs.Option.{IfSome};
 
 use std::env::FillError;
 use std::rt::{Env, Files};
 
-const SERIAL: [u8; 6] = *b"serial";
+// The longest argument that is taken.
+const LONGEST: usize = 4096;
 
 fn usage(stderr: &impl Print) {
     let _ = stderr.write_all(
@@ -16,70 +18,39 @@ fn usage(stderr: &impl Print) {
     );
 }
 
-fn is_serial(word: &[u8]) -> bool {
-    word == SERIAL.as_slice()
-}
-
-// How many arguments there are, the program's own name among them.
-fn argument_count(rt: &impl Env) -> usize {
-    for i in 0..usize::MAX {
-        if let Err(FillError::NotPresent) = rt.arg(i, &mut []) {
-            return i;
-        }
-    }
-    usize::MAX
-}
-
-// An argument at the front of a buffer. Answers its length, 0 where it is missing or does not fit.
-fn argument(rt: &impl Env, place: usize, word: &mut [u8; 4096]) -> usize
-    ensures { result ≤ 4096 }
+// The length of the name that an argument at the front of a buffer is, 0 where it is missing: none where it
+// is empty or does not fit.
+fn name(rt: &impl Env, place: usize, room: &mut [u8; LONGEST]) -> Option<usize>
+    ensures { IfSome result (λ n. n ≤ 4096) }
 {
-    match rt.arg(place, word) {
-        Ok(n) => n,
-        Err(_) => 0,
+    match rt.arg(place, room) {
+        Ok(0) => None,
+        Ok(count) => Some(count),
+        Err(FillError::NotPresent) => Some(0),
+        Err(_) => None,
     }
 }
 
-// Whether an argument that is given is whole and not empty. One that is missing is no name.
-fn is_name(rt: &impl Env, place: usize, length: usize) -> bool {
-    if argument_count(rt) <= place {
-        return true;
+// A board on a serial line, where the arguments ask for one.
+fn serial(rt: &(impl Env + Files + Input + Print), stderr: &impl Print) -> Option<()> {
+    let mut word = [0; LONGEST];
+    let mut cells = [0; LONGEST];
+    let mut program = [0; LONGEST];
+    let count = name(rt, 1, &mut word)?;
+    if &word[..count] != b"serial".as_slice() {
+        return None;
     }
-    0 < length
-}
-
-fn serial(rt: &(impl Env + Files + Input + Print), stderr: &impl Print) {
-    let mut cells = [0u8; 4096];
-    let mut program = [0u8; 4096];
-    let c = argument(rt, 2, &mut cells);
-    let p = argument(rt, 3, &mut program);
-    if !is_name(rt, 2, c) {
-        usage(stderr);
-        return;
-    }
-    if !is_name(rt, 3, p) {
-        usage(stderr);
-        return;
-    }
-    serial_board::serve(rt, stderr, &cells[..c], &program[..p]);
+    let cells_count = name(rt, 2, &mut cells)?;
+    let program_count = name(rt, 3, &mut program)?;
+    serial_board::serve(rt, stderr, &cells[..cells_count], &program[..program_count]);
+    Some(())
 }
 
 fn main(rt: HostRuntime) {
     let stderr = rt.stderr();
-    let count = argument_count(&rt);
-    if count < 2 {
-        script_board::play(&rt, &stderr);
-        return;
+    match streams::argument_count(&rt) {
+        0 | 1 => script_board::play(&rt, &stderr),
+        2..=4 if serial(&rt, &stderr).is_some() => {}
+        _ => usage(&stderr),
     }
-    let mut word = [0u8; 4096];
-    let n = argument(&rt, 1, &mut word);
-    if 4 < count {
-        usage(&stderr);
-        return;
-    }
-    if !is_serial(&word[..n]) {
-        usage(&stderr);
-        return;
-    }
-    serial(&rt, &stderr);
 }

@@ -36,7 +36,7 @@ pub(crate) fn lowest_of(
     requires { 0 < site.depths }
     ensures { Noted paths site.address site.depths found result }
 {
-    let number = site.address * 9;
+    let number = site.address as u16 * 9;
     match paths {
         Err(refusal) => {
             let least = site.depths.trailing_zeros() as u16;

@@ -22,7 +22,7 @@ pub fn lowest(program: &[u8]) -> Option<Found>
     let mut walk = Walk::new();
     let mut next = walk.go(Site::first());
     while let Some(site) = next {
-        let paths = paths_at(program, site.address);
+        let paths = paths_at(program, site.address as u16);
         found = lowest_of(found, site, paths);
         next = walk.spread(site, paths);
     }

@@ -12,10 +12,11 @@ const ADDRESSES: usize = 1025;
 // Added to an address's depths while it waits on the stack.
 const WAITS: u16 = 512;
 
-// An address with some of its depths: a number with bit d for the depth d, 0 to 8.
+// An address with some of its depths: a number with bit d for the depth d, 0 to 8. The address is a usize, since
+// the compiler copies two u16 as one word of 32 bits, and the address then waits for the depths at each record.
 #[derive(Clone, Copy)]
 pub(crate) struct Site {
-    pub(crate) address: u16,
+    pub(crate) address: usize,
     pub(crate) depths: u16,
     ghost inside: { address ≤ 1024 },
     ghost small: { depths < 512 },
@@ -29,7 +30,7 @@ impl Site {
         ensures { IsFirst result }
     {
         Site {
-            address: Point::first().address,
+            address: Point::first().address as usize,
             depths: 1,
         }
     }
@@ -72,16 +73,15 @@ impl Walk {
     fn reach(&mut self, site: Site)
         ensures { self.new ≡ reached self.old site.address site.depths }
     {
-        let a = site.address as usize;
-        let old = self.masks[a];
+        let old = self.masks[site.address];
         let before = old % WAITS;
         let joined = before | site.depths;
         if joined == before {
             return;
         }
-        self.masks[a] = joined + WAITS;
+        self.masks[site.address] = joined + WAITS;
         if old < WAITS {
-            self.stack[self.waiting] = site.address;
+            self.stack[self.waiting] = site.address as u16;
             self.waiting += 1;
         }
     }
@@ -94,10 +94,9 @@ impl Walk {
             return None;
         }
         self.waiting -= 1;
-        let address = self.stack[self.waiting];
-        let a = address as usize;
-        let depths = self.masks[a] % WAITS;
-        self.masks[a] = depths;
+        let address = self.stack[self.waiting] as usize;
+        let depths = self.masks[address] % WAITS;
+        self.masks[address] = depths;
         Some(Site { address, depths })
     }
 
@@ -106,12 +105,11 @@ impl Walk {
     pub(crate) fn go(&mut self, site: Site) -> Option<Site>
         ensures { in_hand self.new result ≡ gone self.old site.address site.depths }
     {
-        let a = site.address as usize;
-        let mask = self.masks[a];
+        let mask = self.masks[site.address];
         if mask < WAITS {
             let depths = mask | site.depths;
             if depths != mask {
-                self.masks[a] = depths;
+                self.masks[site.address] = depths;
                 return Some(Site {
                     address: site.address,
                     depths,
@@ -130,25 +128,28 @@ impl Walk {
         let depths = site.depths;
         match paths {
             Err(_) | Ok(Paths::Nowhere | Paths::Back) => self.take(),
-            Ok(Paths::To(address)) => self.go(Site { address, depths }),
+            Ok(Paths::To(target)) => self.go(Site {
+                address: target as usize,
+                depths,
+            }),
             Ok(Paths::Both(target, next)) => {
                 self.reach(Site {
-                    address: target,
+                    address: target as usize,
                     depths,
                 });
                 self.go(Site {
-                    address: next,
+                    address: next as usize,
                     depths,
                 })
             }
             Ok(Paths::Call(target, next)) => {
                 let callers = depths % 256;
                 self.reach(Site {
-                    address: target,
+                    address: target as usize,
                     depths: callers * 2,
                 });
                 self.go(Site {
-                    address: next,
+                    address: next as usize,
                     depths: callers,
                 })
             }

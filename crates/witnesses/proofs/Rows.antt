@@ -63,7 +63,7 @@ use Rattle.rules.specs.Datagram.{After, lent}
 use Rattle.law_rows.specs.Rows.{PowersUp, Ticks}
 use Rattle.law_safety.specs.Events as door
 use Rattle.law_safety.specs.Laws.{Begun}
-use Rattle.checking.specs.declared.Verdict.TheVariants.{Passed}
+use Rattle.checking.specs.Check.{Passed}
 use Rattle.checking.specs.Check as checking
 use Rattle.numbered.specs.Check as numbered
 use Rattle.values.specs.Examples.{default_cells}

@@ -2,8 +2,7 @@
 use Rattle.std.specs.Prelude.{replicate}
 use Rattle.status.specs.declared.Status.TheVariants.{Unknown, Kind, Value, Unavailable}
 use Rattle.points.specs.Points.{first, point}
-use Rattle.checking.specs.Check.{answer, Checked}
-use Rattle.checking.specs.declared.Verdict.TheVariants.{Length, Passed, Refused}
+use Rattle.checking.specs.Check.{Length, Passed, Refused, answer, Checked}
 use Rattle.witnesses.specs.Programs.{working, refusing, untaken, deepening, twice, wrong_value, wrong_motor, not_on_sheet, falling}
 
 pub record Checks : Type 0 where

@@ -8,7 +8,7 @@ pub returns : goal.returns
 returns c =
     let k = c.set.ensures in
     let l = c.args.image.now in
-    let t = c.ticked in
+    let t = c.ticked-later in
     record {
       makes =
           k.makes

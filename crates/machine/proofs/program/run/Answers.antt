@@ -13,9 +13,6 @@ use Rattle.machine.specs.Alone.{readied}
 use Rattle.machine.proofs.Runs.{unused-low, steps-are, not-running, no-budget}
 use Rattle.machine.proofs.program.run.Goals as goal
 
-pub returns-then-program-ne7168 : goal.returns-then-program-ne7168
-returns-then-program-ne7168 c = (λ h. absurd (c.if-program-ne7168.true h), λ _. (c.none_made.ensures, record { image = refl; store = refl }))
-
 pub returns-then-not-get : goal.returns-then-not-get
 returns-then-not-get c =
     let x = c.args in
@@ -28,7 +25,7 @@ returns-then-not-get c =
             store = ap (λ (t : board.Steps). t.store) e;
             stays = λ t. t;
           },
-      λ n. absurd (n c.if-program-ne7168.false),
+      λ n. absurd (n c.in-Ok.ensures.1.long),
     )
 
 pub returns-then-budget-eq0 : goal.returns-then-budget-eq0
@@ -43,29 +40,29 @@ returns-then-budget-eq0 c =
             store = ap (λ (t : board.Steps). t.store) e;
             stays = λ t. t;
           },
-      λ n. absurd (n c.if-program-ne7168.false),
+      λ n. absurd (n c.in-Ok.ensures.1.long),
     )
 
 pub overflow_sub-result : goal.overflow_sub-result
 overflow_sub-result c =
-    let w = c.walk-gone in
+    let w = rw c.in-Ok.ensures.1.same at c.walk-gone.ensures in
     let x = c.args in
-    omega (arith, w.ensures.unused, unused-low x.program.now x.budget (turn (readied x.program.now (registers_of x.image.now)) x.store.now Done Goes))
+    omega (arith, w.unused, unused-low x.program.now x.budget (turn (readied x.program.now (registers_of x.image.now)) x.store.now Done Goes))
 
 pub returns : goal.returns
 returns c =
-    let w = c.walk-gone in
+    let w = rw c.in-Ok.ensures.1.same at c.walk-gone.ensures in
     let x = c.args in
     let on = sym c.get.ensures ∙ not-false c.get.result c.if-not-get.false-raw in
     let some : 0 < x.budget = omega (arith, c.if-budget-eq0.false) in (
       λ h.
           let e = sym (steps-are x.program.now h x.budget some (registers_of x.image.now) x.store.now on) in
           record {
-            status = w.ensures.status ∙ ap (λ (t : board.Steps). t.status) e;
-            count = ap (λ (u : ℕ). x.budget - u) w.ensures.unused ∙ ap (λ (t : board.Steps). t.steps) e;
-            makes = w.ensures.makes ∙ ap (λ (t : board.Steps). t.registers) e;
-            store = w.ensures.store ∙ ap (λ (t : board.Steps). t.store) e;
-            stays = w.ensures.stays;
+            status = w.status ∙ ap (λ (t : board.Steps). t.status) e;
+            count = ap (λ (u : ℕ). x.budget - u) w.unused ∙ ap (λ (t : board.Steps). t.steps) e;
+            makes = w.makes ∙ ap (λ (t : board.Steps). t.registers) e;
+            store = w.store ∙ ap (λ (t : board.Steps). t.store) e;
+            stays = w.stays;
           },
-      λ n. absurd (n c.if-program-ne7168.false),
+      λ n. absurd (n c.in-Ok.ensures.1.long),
     )

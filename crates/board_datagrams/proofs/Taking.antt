@@ -6,14 +6,13 @@ use mathlib.Core.List.{List}
 use borrow.Author.Tests.{eqb-true}
 use lib.Dec.{eqb}
 use lib.ListN.{length, get_or}
-use Rattle.std.specs.Prelude.{Result, Ok, Err}
+use Rattle.std.specs.Prelude.{Result, Ok}
 use Rattle.words.proofs.Bools.{each, either}
 use Rattle.checksum.specs.Checksum.{right_frame}
 use Rattle.wire.specs.Frame.{command_at}
 use Rattle.wire.specs.declared.Command.{Command}
 use Rattle.serial.specs.Serial.{taken_of}
 use Rattle.serial.specs.declared.NotTaken.{NotTaken}
-use Rattle.serial.specs.declared.NotTaken.TheVariants.{NotOurs, Damaged}
 use Rattle.store.specs.Store.{is_program_store, is_parameter_store}
 use Rattle.sheet.specs.Sheet.{axis, globals, read_only, rwe_rows, rw_rows, r_rows}
 use Rattle.settings.specs.Settings.{bank_place}

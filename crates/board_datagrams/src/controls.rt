@@ -12,7 +12,8 @@ use reg_image::{REGISTERS, Running, get};
 use status::{Refusal, Status};
 use wire::Command;
 
-// What a control command does, once it is judged: 130 a step, 137 the defaults, 255 a power-up.
+// What a control command does, once it is judged: 130 a step, 137 the defaults, 255 a power-up. By its number,
+// as the datagram has it: an enum would be made by one such match and read by another.
 #[tactic(auto, unfolding(rules::specs::Controlling::controlled, board_events::specs::Events::power_status))]
 fn carry_out(image: &mut [u32; REGISTERS], program: &[u8], cells: &mut [u8], c: Command)
     ensures { length program.now ≡ 7168 → is_parameter_store cells.old ≡ true → Carries (controlled c program.now (registers_of image.old) cells.old) image.old image.new cells.new }

@@ -48,6 +48,9 @@ pub(crate) fn addresses(image: &[u32; REGISTERS]) -> Addresses
 }
 
 // A datagram of any bytes: the reply's status, or none where there is no reply by length or address.
+//
+// What is lent goes on in its four parts: of a struct that holds the four loans, each function would have to
+// promise that each is the same loan still.
 #[tactic(auto, unfolding(crate::specs::Datagram::answered))]
 pub fn datagram(
     image: &mut [u32; REGISTERS],
@@ -63,7 +66,5 @@ pub fn datagram(
     }
     reg_range::fitting(image, program, cells)?;
     let taken = serial::take_command(bytes, module_address(image));
-    Ok(receiving::receive(
-        image, program, cells, reply, bytes, taken,
-    ))
+    Ok(receiving::receive(image, program, cells, reply, bytes, taken))
 }

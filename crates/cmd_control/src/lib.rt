@@ -1,5 +1,6 @@
 // The control commands and the download in place, over an image of the registers: what each is refused for,
-// what it answers and what it does. 130 is a step of the machine, and 255 a power-up.
+// what it answers and what it does. 130 is a step of the machine, and 255 a power-up. A command goes by its
+// number, as the datagram has it: an enum would be made by one match and read by three others.
 #![tactic(auto)]
 
 ghost use Rattle.std.specs.Prelude.{◌≡◌};

@@ -54,11 +54,10 @@ fn answer(rt: &impl Print, bench: &mut Bench, line: &[u8], number: u64) {
 // that was never powered.
 fn play(rt: &impl Print, script: &[u8]) {
     let mut bench = Bench::new();
-    let mut number = 0u64;
-    for line in script.split_inclusive(|b| *b == b'\n') {
-        number = number.wrapping_add(1);
+    let lines = script.split_inclusive(|b| *b == b'\n');
+    for (place, line) in lines.enumerate() {
         let line = line.strip_suffix(b"\n").unwrap_or(line);
-        answer(rt, &mut bench, line, number);
+        answer(rt, &mut bench, line, (place as u64).saturating_add(1));
     }
 }
 

@@ -1,5 +1,5 @@
 // The script in pieces, as standard input hands it out. A piece is read behind what waits at the front of
-// the buffer: a line that is not whole yet.
+// the buffer, which is fixed memory: a line that is not whole yet.
 ghost use Rattle.std.specs.Prelude.{◌≤◌};
 
 use std::io;

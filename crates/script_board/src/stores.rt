@@ -1,4 +1,4 @@
-// A store: an array, and how many of its bytes the store has at present.
+// A store: fixed memory, and how many of its bytes the store has at present.
 ghost use Rattle.std.specs.Prelude.{◌≤◌};
 
 #[derive(Drop)]

@@ -26,7 +26,8 @@ fn put_parts(out: &mut Output, name: &[u8], image: &[u8], fresh: &[u8], width: u
     }
 }
 
-// The same of an image file, as long as on a new board, or that it holds no image.
+// The same of an image file, as long as on a new board, or that it holds no image. A struct of the file, its
+// parts' name, what they are on a new board and their width would name each of them once more at its calls.
 fn put_file(
     rt: &impl Files,
     stderr: &impl Print,

@@ -1,4 +1,4 @@
-// A buffer of 64 KiB, filled from its front. A contract sees the bytes that are put.
+// A buffer of 64 KiB of fixed memory, filled from its front. A contract sees the bytes that are put.
 //
 // Bytes that find no room are left out, so a caller sees to room first.
 ghost use Rattle.std.specs.Prelude.{◌≡◌, ◌≤◌, List, [], ◌∷◌, ℕ, take, length};
@@ -8,6 +8,8 @@ use std::marker::Model;
 
 const ROOM: usize = 65536;
 
+// Digits are put by hand, in decimal and in hex: `write!` promises them only where it answers `Ok`, and
+// what puts them cannot fail.
 const DIGITS: [u8; 16] = *b"0123456789abcdef";
 
 #[derive(Drop)]
@@ -64,7 +66,7 @@ impl Output {
         self.end = end;
     }
 
-    // The digits one by one: `write!` promises them only where it answers `Ok`, and this cannot fail.
+    // A number in decimal.
     fn put_decimal(&mut self, n: u64)
         ensures { Put self.old (decimal n) self.new }
     {

@@ -2,9 +2,8 @@
 ghost use Rattle.std.specs.Prelude.{◌≡◌};
 ghost use Rattle.numbered.specs.Check.{Checks, numbers_of};
 
-use checking::Answer;
-
 use crate::Checked;
+use checking::Answer;
 
 impl From<Answer> for Checked {
     ghost from_gives = { λ answer checked. checked ≡ numbers_of answer };

@@ -47,14 +47,11 @@ reply_trip r f =
     (ap (λ (z : ℤ). done (record { reply_address = a; module_address = b; status = c; command = d; value = word z })) (made_value a b c d r.value.v f))
 
 -- ---- a frame that is taken, or read, is the frame of what it gave
-no : {A : Type 0} → ◌≡◌ {A = ℕ} 0 1 → A
-no e = absurd (omega arith)
-
 taken-whole : (x y z : Bool) (k c : Command) (n : ℕ) → pick {A = Result Command NotTaken} x (pick y (pick z (Ok k) (Err (Damaged n))) (Err NotOurs)) (Err NotOurs) ≡ Ok c → (y ≡ true) × ((z ≡ true) × (k ≡ c))
 taken-whole true true true k c n e = (refl, (refl, cc))
-taken-whole true true false k c n e = no cc
-taken-whole true false z k c n e = no cc
-taken-whole false y z k c n e = no cc
+taken-whole true true false k c n e = cc
+taken-whole true false z k c n e = cc
+taken-whole false y z k c n e = cc
 
 pub one_command : (ours : ℕ) (s : List ℕ) (c : Command) → AllBytes s → taken_of ours s ≡ Ok c → s ≡ command_frame ours c
 unfolding taken_of

@@ -33,41 +33,25 @@ pub fn build_command(out: &mut [u8], address: u8, number: u8, kind: u8, motor: u
     number_of(display::build_command(out, address, command))
 }
 
-fn of_byte(b: u8) -> Word
-    ensures { result ≡ word (of_bits b) }
-{
-    words::of_bits(b as u32)
-}
-
-fn put(numbers: &mut [i32; 5], place: usize, w: Word)
-    requires { place < 5 }
-    ensures { numbers.new ≡ set numbers.old place w.v }
-{
-    let v = w.v;
-    numbers[place] = v;
-}
-
 // The five numbers of a reply to an address, from a module. Its fields come one by one: a struct that is
 // handed on is copied in pieces.
 fn put_reply(numbers: &mut [i32; 5], to: u8, from: u8, status: u8, command: u8, value: Word)
     ensures { numbers.new ≡ sets numbers.old 0 (spec.five_of to from status command value) }
 {
-    put(numbers, 0, of_byte(to));
-    put(numbers, 1, of_byte(from));
-    put(numbers, 2, of_byte(status));
-    put(numbers, 3, of_byte(command));
-    put(numbers, 4, value);
+    *numbers = [
+        i32::from(to),
+        i32::from(from),
+        i32::from(status),
+        i32::from(command),
+        value.v,
+    ];
 }
 
 // No numbers.
 fn clear(numbers: &mut [i32; 5])
     ensures { numbers.new ≡ sets numbers.old 0 (spec.numbers_of (refused 0)) }
 {
-    numbers[0] = 0;
-    numbers[1] = 0;
-    numbers[2] = 0;
-    numbers[3] = 0;
-    numbers[4] = 0;
+    *numbers = [0; 5];
 }
 
 // The reply in lent bytes of any length: its reply address, module address, status, command and value,

@@ -103,7 +103,8 @@ fn happened(kind: u8, image: &[u32; REGISTERS]) -> bool
     }
 }
 
-// Whether a wait of this count passes; if not, the deed to hold on. The condition is looked at first.
+// Whether a wait of this count passes; if not, the deed to hold on. The condition is looked at first. Count and
+// whether it is timed come alone: in a `Wait`, whether it is armed would stand beside them and say nothing.
 fn tested(kind: u8, image: &[u32; REGISTERS], count: u32, timed: bool, holding: Deed) -> Deed
     ensures { Tests kind (registers_of image.now) count timed holding result }
 {

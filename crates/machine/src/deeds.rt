@@ -24,7 +24,8 @@ use words::Word;
 // The place of user variable 0.
 const USER_VARIABLES: usize = 47;
 
-// Made anew, field by field: a struct that is copied and changed in a part is copied in pieces.
+// Made anew, field by field: a struct that is copied and changed in a part is copied in pieces. Three names
+// for what becomes of the program, where one function of all four fields would be the struct again.
 pub(crate) fn goes(accumulator: Word, address: u32, status: Status) -> Stepped
     ensures { result ≡ spec.goes accumulator address status }
 {
@@ -58,7 +59,8 @@ fn stops(accumulator: Word, address: u32, status: Status) -> Stepped
     }
 }
 
-// A return address on the stack, where there is room.
+// A return address on the stack, where there is room. `stack` has this by value, as 01 wants it; a step
+// writes the two places, and both are held to one definition.
 fn push(image: &mut [u32; REGISTERS], back: u32)
     ensures { Leaves (spec.pushing back) image.old image.new }
 {

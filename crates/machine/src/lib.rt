@@ -24,7 +24,8 @@ pub struct Stepped {
     pub left: Left,
 }
 
-// What steps leave, and how many of their budget are not used.
+// What steps leave, and how many of their budget are not used. The fields of a `Stepped` stand here one by
+// one: a struct within would be copied in pieces at each step.
 #[derive(Clone, Copy)]
 pub struct Gone {
     pub accumulator: Word,

@@ -21,7 +21,8 @@ use words::Word;
 
 // CSUB and RSUB are told apart by tests behind the match: calls nest and returns follow one another, and in
 // a row of equal steps a processor foresees a test from further back than the target of a jump. What both
-// need is read before the tests, else the compiler makes them cases of the jump again.
+// need is read before the tests, else the compiler makes them cases of the jump again. The match is by the
+// record's byte: an enum of commands would be made by one such match and read by another.
 fn decide(
     number: u8,
     seven: &[u8],

@@ -5,6 +5,7 @@ use machine::Made;
 use reg_image::REGISTERS;
 use status::{Misfit, Status};
 
+// Its stores are arrays, where the board of `script_board` has stores of any length.
 #[derive(Drop)]
 pub(crate) struct Bench {
     pub(crate) image: [u32; REGISTERS],

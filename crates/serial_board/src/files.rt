@@ -112,7 +112,8 @@ fn remove(rt: &impl Files, fresh: &[u8]) {
     }
 }
 
-// Where a name's last word begins: behind its last slash.
+// Where a name's last word begins: behind its last slash. By `map_or` the place behind the slash would want
+// a clause of its own to be one of the name's.
 fn last_word(name: &[u8]) -> usize
     ensures { result ≤ length name.now }
 {

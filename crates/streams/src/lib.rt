@@ -71,7 +71,7 @@ fn cause(said: &str) -> &str {
 }
 
 // Tells on a stream that something of this name failed, and why. Where the stream takes no more, the line
-// is lost.
+// is lost. The name is written and not printed, since it is bytes that need not be text.
 pub fn tell(stream: &impl Print, name: &[u8], error: &io::Error) {
     let mut said = [0u8; 256];
     let mut room: &mut [u8] = &mut said;

@@ -10,7 +10,7 @@ use status::{Refusal, Status};
 // The greatest depth, from which a call is bad.
 const DEEPEST: u16 = Point::DEEPEST as u16;
 
-// A bad point by its number, and its status.
+// A bad point by its number, and its status. Numbers compare as addresses do and then depths, by one test.
 #[derive(Clone, Copy)]
 pub struct Found {
     pub number: u16,

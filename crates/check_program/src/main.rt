@@ -53,6 +53,7 @@ fn read_image<'r>(
     name: &[u8],
     room: &'r mut [u8; MOST],
 ) -> Result<&'r [u8], Unread> {
+    // That it is no text is told before that it is too long, and in `serial_board` behind it.
     let Ok(path) = str::from_utf8(name) else {
         return Err(Unread::NoText);
     };

@@ -18,7 +18,7 @@ use Rattle.checksum.specs.Checksum.{right_frame}
 use Rattle.wire.specs.declared.Command.{Command}
 use Rattle.status.specs.Status.{number_of, is_done}
 use Rattle.status.specs.declared.Status.{Status}
-use Rattle.status.specs.declared.Status.TheVariants.{Done, Stored, Checksum, Unknown, Kind, Value, Locked, Unavailable}
+use Rattle.status.specs.declared.Status.TheVariants.{Done}
 use Rattle.status.proofs.Statuses.{by-status}
 use Rattle.rules.specs.Run as running
 use Rattle.rules.specs.Step.{State}

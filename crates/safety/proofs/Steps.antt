@@ -26,7 +26,7 @@ use Rattle.rules.specs.Flow as flow
 use Rattle.rules.proofs.FlowCases.{by-command}
 use Rattle.rules.specs.Step.{State, Pins, After, after_work, carried, obeyed, step}
 use Rattle.rules.proofs.StepCases.{by-carried}
-use Rattle.rules.specs.Run.{Progress, begun, advanced}
+use Rattle.rules.specs.Run.{Progress, advanced}
 use Rattle.rules.specs.RunLaws.{walked}
 use Rattle.leading.specs.Leading.{way_at}
 use Rattle.safety.specs.Listed.{by_value, by_lock, Listed}

@@ -62,7 +62,8 @@ fn reading(image: &mut [u32; REGISTERS], place: usize, fields: &[i32; 16], at: u
     set_at::<Value>(image, place, field(fields, at));
 }
 
-// Parameters 51, 52, 55, 211, 212, 213, 220 and 221.
+// Parameters 51, 52, 55, 211, 212, 213, 220 and 221. Each place is named: so the compiler knows where it stands, and
+// writes it with no test. In a loop over places it would not.
 pub(crate) fn readings(image: &mut [u32; REGISTERS], fields: &[i32; 16])
     ensures { Leaves (parts.with_readings (spec.readings_of fields.now)) image.old image.new }
 {

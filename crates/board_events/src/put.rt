@@ -18,7 +18,7 @@ fn field(fields: &[i32; 16], at: usize) -> Word
     Word { v: fields[at] }
 }
 
-// A flag after its alarm.
+// A flag after its alarm: 1, or as it was, which is no number of the alarm alone.
 fn raised_flag(alarm: bool, flag: u32) -> u32
     ensures { result ≡ raised_flag alarm flag }
 {

@@ -11,6 +11,7 @@ use display::reply_in;
 use wire::{Command, WrongLength};
 use words::Word;
 
+// A function and no `From`, since neither type is of this crate.
 fn number_of(written: Result<(), WrongLength>) -> u8
     ensures { result ≡ written_status written }
 {

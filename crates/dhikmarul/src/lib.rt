@@ -55,8 +55,10 @@ pub extern "C" fn dhikmarul_datagram(
 ) -> u8
     ensures { Answers bytes.now registers.old program.old cells.old reply.old result registers.new program.new cells.new reply.new }
 {
-    board_datagrams::datagram(registers, program, cells, reply, bytes)
-        .map_or_else(u8::from, |replied| replied.map_or(0, u8::from))
+    board_datagrams::datagram(registers, program, cells, reply, bytes).map_or_else(
+        u8::from,
+        |replied| replied.map_or(0, u8::from),
+    )
 }
 
 // A sample of sixteen fields.

@@ -5,15 +5,12 @@ use native.Mathlib.Omega.{arith}
 use mathlib.Core.Path.{◌≡◌, refl, ap, ◌∙◌}
 use mathlib.Core.Bool.{Bool, true, false}
 use mathlib.Core.List.{List, [], ◌∷◌}
-use borrow.Author.Tests.{ltb-true, eqb-true}
+use borrow.Author.Tests.{eqb-true}
 use lib.Dec.{eqb}
-use lib.IntN.{ℤ, pos, negsuc}
-use mir.Syntax.{w32}
-use mir.ValLaws.{to_z-of_z}
-use Rattle.words.specs.Word.{word}
-use Rattle.text.specs.Numbers.{size_of, is_word, word_of}
+use Rattle.text.specs.Numbers.{size_of}
 use Rattle.text.specs.Put.{digits_before, decimal}
 use Rattle.text.specs.Laws.{Laws}
+use Rattle.text.proofs.Word.{word_value}
 
 -- ---- digits
 one-digit : (n : ℕ) (text : List ℕ) → n / 10 ≡ 0 → size_of 0 ((48 + n % 10) ∷ text) ≡ size_of n text
@@ -41,11 +38,6 @@ before_back (suc most) n text h =
 digits_back : (n : ℕ) → n < 18446744073709551616 → size_of 0 (decimal n) ≡ n
 unfolding decimal
 digits_back n h = before_back 20 n [] (omega arith)
-
--- ---- words
-pub word_value : (n : ℤ) → is_word n ≡ true → word_of n ≡ word n
-word_value (pos n) h = ap word (to_z-of_z w32 (pos n) (record { sfits = ltb-true n 2147483648 h }))
-word_value (negsuc n) h = ap word (to_z-of_z w32 (negsuc n) (record { sfits = ltb-true n 2147483648 h }))
 
 pub laws : Laws
 laws = record { digits_back = digits_back; word_value = word_value }

@@ -12,7 +12,6 @@ use lib.IntN.{ℤ, pos, negsuc, ◌+ℤ◌, ◌-ℤ◌}
 use lib.ListN.{length, get_or, set, take, drop}
 use mir.Syntax.{w32, w64}
 use mir.Val.{SFits}
-use mir.ValLaws.{to_z-of_z}
 use Rattle.std.proofs.lemmas.Option.{same_Some}
 use Rattle.std.specs.Prelude.{Option, Some, None}
 use Rattle.std.specs.Option.{SomeIff, option_and_then, option_map}
@@ -20,6 +19,8 @@ use Rattle.std.specs.Prelude.{Result, Ok, Err, unsigned_abs as mag_of}
 use Rattle.std.specs.Result.{OkIff, result_ok}
 use Rattle.std.specs.Int.{FitsUnsignedBits}
 use Rattle.std.proofs.lemmas.List.{at_drop_more, append-nil, take_all, take_more_set}
+use Rattle.words.specs.declared.Word.{Word}
+use Rattle.text.proofs.Word.{word_value}
 use Rattle.text.specs.Line.{behind_space}
 use Rattle.text.specs.Numbers.{digit_count, size_of, most_of, value_of, signed_of, of_digits, number_from, number_word, number_at, is_up_to, is_word, word_of, size, if_up_to, if_word, up_to_at, word_at, words_at, Reads}
 
@@ -176,7 +177,9 @@ not_word z (Err d) h e = by (is_word z) refl
 pub is_a_word : {E : Type 0} → (z : ℤ) (r : Result ℤ E) → OkIff r (SFits w32 z) z
     → (n : ℤ) → Some n ≡ result_ok r → (is_word z ≡ true) × ((word_of z).v ≡ n)
 is_a_word z (Err d) h n e = absurd (cc)
-is_a_word z (Ok x) h n e = (word-fits z h.0, to_z-of_z w32 z h.0 ∙ sym h.1 ∙ sym (same_Some n x e))
+is_a_word z (Ok x) h n e =
+    let f = word-fits z h.0 in
+    (f, ap (λ (w : Word). w.v) (word_value z f) ∙ sym h.1 ∙ sym (same_Some n x e))
 
 module _ (text : List ℕ) where
   module _ (most : ℕ) where

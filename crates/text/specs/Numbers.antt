@@ -1,9 +1,9 @@
 -- "Numbers are decimal, with a minus sign where negative, and fit a signed 64-bit number." What is read at the front of a text is given
 -- with what stands behind it.
-use Rattle.std.specs.Prelude.{ℕ, zero, suc, ◌+◌, ◌-◌, ◌*◌, ◌≡◌, Bool, true, false, ◌&&◌, List, [], ◌∷◌, eqb, leb, ltb, ℤ, pos, negsuc, take, drop, Option, Some, None}
+use Rattle.std.specs.Prelude.{ℕ, zero, suc, ◌+◌, ◌-◌, ◌*◌, ◌%◌, ◌≡◌, Bool, true, false, ◌&&◌, List, [], ◌∷◌, eqb, leb, ltb, ℤ, pos, negsuc, take, drop, Option, Some, None}
 use Rattle.std.specs.List.{prefix_len}
 use Rattle.std.specs.Option.{option_and_then, option_map}
-use Rattle.words.specs.Word.{pick, word, bits_of, of_bits}
+use Rattle.words.specs.Word.{pick, word, of_bits}
 use Rattle.words.specs.declared.Word.{Word}
 use Rattle.text.specs.Line.{behind_space}
 
@@ -63,9 +63,13 @@ abbrev pub is_word : ℤ → Bool
 is_word (pos n) = ltb n 2147483648
 is_word (negsuc n) = ltb n 2147483648
 
--- the word of its last 32 bits
-abbrev pub word_of : ℤ → Word
-word_of n = word (of_bits (bits_of n))
+-- the word of its last 32 bits; `negsuc n` is -(n + 1)
+abbrev pub last_bits : ℤ → ℕ
+last_bits (pos n) = n % 4294967296
+last_bits (negsuc n) = 4294967295 - n % 4294967296
+
+unfoldable pub word_of : ℤ → Word
+word_of n = word (of_bits (last_bits n))
 
 -- ---- numbers of a kind
 abbrev pub size : ℤ → ℕ

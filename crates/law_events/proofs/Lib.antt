@@ -4,3 +4,4 @@ pub mod Steps
 pub mod Words
 pub mod Replies
 pub mod Answers
+pub mod Known

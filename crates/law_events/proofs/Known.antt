@@ -1,0 +1,112 @@
+-- Each answer is made again from its number. Assumes nothing.
+use Prim.Native.Nat.{ℕ}
+use mathlib.Core.Path.{◌≡◌, refl, sym, ap, ◌∙◌}
+use lib.Dec.{eqb}
+use Rattle.std.specs.Prelude.{Option, Some, None, Result, Ok, Err}
+use Rattle.words.specs.Word.{pick}
+use Rattle.status.specs.Status.{number_of}
+use Rattle.status.specs.declared.Status.{Status}
+use Rattle.status.specs.declared.Status.TheVariants as status
+use Rattle.status.specs.declared.Refusal.{Refusal}
+use Rattle.status.specs.declared.Refusal.TheVariants as refusal
+use Rattle.status.specs.declared.Misfit.{Misfit}
+use Rattle.status.specs.declared.Misfit.TheVariants.{Length, Sample, Budget, Registers}
+use Rattle.status.specs.Refusal.{judged_as}
+use Rattle.status.specs.Misfit.{told}
+use Rattle.machine.specs.declared.Made.{Made}
+use Rattle.board_runs.specs.Run.{Ran, numbers_of}
+use Rattle.board_datagrams.specs.Datagram.{number_answered}
+use Rattle.law_events.specs.Known.{Known}
+
+-- two that are made from one thing are one
+known : {A B : Type 0} → (to : A → B) (back : B → A) → ((x : A) → back (to x) ≡ x) → (x y : A) → to x ≡ to y → x ≡ y
+known to back again x y e = sym (again x) ∙ ap back e ∙ again y
+
+-- ---- a status
+status_of : ℕ → Status
+status_of n =
+    pick (eqb n 100) status.Done
+    (pick (eqb n 101) status.Stored
+    (pick (eqb n 1) status.Checksum
+    (pick (eqb n 2) status.Unknown
+    (pick (eqb n 3) status.Kind
+    (pick (eqb n 4) status.Value
+    (pick (eqb n 5) status.Locked status.Unavailable))))))
+
+-- ---- a judge's
+judged : Status → Result Unit Refusal
+judged status.Done = Ok tt
+judged status.Stored = Ok tt
+judged status.Checksum = Ok tt
+judged status.Unknown = Err refusal.Unknown
+judged status.Kind = Err refusal.Kind
+judged status.Value = Err refusal.Value
+judged status.Locked = Err refusal.Locked
+judged status.Unavailable = Err refusal.Unavailable
+
+judged_again : (x : Result Unit Refusal) → judged (judged_as x) ≡ x
+judged_again (Ok tt) = refl
+judged_again (Err refusal.Unknown) = refl
+judged_again (Err refusal.Kind) = refl
+judged_again (Err refusal.Value) = refl
+judged_again (Err refusal.Locked) = refl
+judged_again (Err refusal.Unavailable) = refl
+
+-- ---- what does not fit, or what else is answered
+fitted : {A : Type 0} → ℕ → Result A Misfit → Result A Misfit
+fitted n other =
+    pick (eqb n 20) (Err Length) (pick (eqb n 21) (Err Sample) (pick (eqb n 22) (Err Budget) (pick (eqb n 23) (Err Registers) other)))
+
+told_again : (x : Result Unit Misfit) → fitted (told x) (Ok tt) ≡ x
+told_again (Ok tt) = refl
+told_again (Err Length) = refl
+told_again (Err Sample) = refl
+told_again (Err Budget) = refl
+told_again (Err Registers) = refl
+
+replied : ℕ → Result (Option Status) Misfit
+replied n = fitted n (Ok (pick (eqb n 0) None (Some (status_of n))))
+
+replied_again : (x : Result (Option Status) Misfit) → replied (number_answered x) ≡ x
+replied_again (Ok None) = refl
+replied_again (Ok (Some status.Done)) = refl
+replied_again (Ok (Some status.Stored)) = refl
+replied_again (Ok (Some status.Checksum)) = refl
+replied_again (Ok (Some status.Unknown)) = refl
+replied_again (Ok (Some status.Kind)) = refl
+replied_again (Ok (Some status.Value)) = refl
+replied_again (Ok (Some status.Locked)) = refl
+replied_again (Ok (Some status.Unavailable)) = refl
+replied_again (Err Length) = refl
+replied_again (Err Sample) = refl
+replied_again (Err Budget) = refl
+replied_again (Err Registers) = refl
+
+made : Ran → Result Made Misfit
+made r = fitted r.status (Ok (record { status = status_of r.status; steps = r.steps }))
+
+status_again : (s : Status) (n : ℕ) → made (numbers_of (Ok (record { status = s; steps = n }))) ≡ Ok (record { status = s; steps = n })
+status_again status.Done n = refl
+status_again status.Stored n = refl
+status_again status.Checksum n = refl
+status_again status.Unknown n = refl
+status_again status.Kind n = refl
+status_again status.Value n = refl
+status_again status.Locked n = refl
+status_again status.Unavailable n = refl
+
+made_again : (x : Result Made Misfit) → made (numbers_of x) ≡ x
+made_again (Ok m) = status_again m.status m.steps
+made_again (Err Length) = refl
+made_again (Err Sample) = refl
+made_again (Err Budget) = refl
+made_again (Err Registers) = refl
+
+pub laws : Known
+laws =
+    record {
+      one_judged = known judged_as judged judged_again;
+      one_told = known told (λ n. fitted n (Ok tt)) told_again;
+      one_replied = known number_answered replied replied_again;
+      one_made = known numbers_of made made_again;
+    }

@@ -23,7 +23,7 @@ known : {A B : Type 0} → (to : A → B) (back : B → A) → ((x : A) → back
 known to back again x y e = sym (again x) ∙ ap back e ∙ again y
 
 -- ---- a status
-status_of : ℕ → Status
+abbrev status_of : ℕ → Status
 status_of n =
     pick (eqb n 100) status.Done
     (pick (eqb n 101) status.Stored
@@ -34,7 +34,7 @@ status_of n =
     (pick (eqb n 5) status.Locked status.Unavailable))))))
 
 -- ---- a judge's
-judged : Status → Result Unit Refusal
+abbrev judged : Status → Result Unit Refusal
 judged status.Done = Ok tt
 judged status.Stored = Ok tt
 judged status.Checksum = Ok tt
@@ -45,7 +45,7 @@ judged status.Locked = Err refusal.Locked
 judged status.Unavailable = Err refusal.Unavailable
 
 judged_again : (x : Result Unit Refusal) → judged (judged_as x) ≡ x
-judged_again (Ok tt) = refl
+judged_again (Ok u) = refl
 judged_again (Err refusal.Unknown) = refl
 judged_again (Err refusal.Kind) = refl
 judged_again (Err refusal.Value) = refl
@@ -53,18 +53,18 @@ judged_again (Err refusal.Locked) = refl
 judged_again (Err refusal.Unavailable) = refl
 
 -- ---- what does not fit, or what else is answered
-fitted : {A : Type 0} → ℕ → Result A Misfit → Result A Misfit
+abbrev fitted : {A : Type 0} → ℕ → Result A Misfit → Result A Misfit
 fitted n other =
     pick (eqb n 20) (Err Length) (pick (eqb n 21) (Err Sample) (pick (eqb n 22) (Err Budget) (pick (eqb n 23) (Err Registers) other)))
 
 told_again : (x : Result Unit Misfit) → fitted (told x) (Ok tt) ≡ x
-told_again (Ok tt) = refl
+told_again (Ok u) = refl
 told_again (Err Length) = refl
 told_again (Err Sample) = refl
 told_again (Err Budget) = refl
 told_again (Err Registers) = refl
 
-replied : ℕ → Result (Option Status) Misfit
+abbrev replied : ℕ → Result (Option Status) Misfit
 replied n = fitted n (Ok (pick (eqb n 0) None (Some (status_of n))))
 
 replied_again : (x : Result (Option Status) Misfit) → replied (number_answered x) ≡ x
@@ -82,7 +82,7 @@ replied_again (Err Sample) = refl
 replied_again (Err Budget) = refl
 replied_again (Err Registers) = refl
 
-made : Ran → Result Made Misfit
+abbrev made : Ran → Result Made Misfit
 made r = fitted r.status (Ok (record { status = status_of r.status; steps = r.steps }))
 
 status_again : (s : Status) (n : ℕ) → made (numbers_of (Ok (record { status = s; steps = n }))) ≡ Ok (record { status = s; steps = n })

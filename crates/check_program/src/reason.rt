@@ -4,7 +4,7 @@ use wire::Command;
 
 // Which of motor, bank, value and target is wrong, by what the command takes. A wrong motor and a wrong bank
 // are judged before a wrong value. Commands are told apart by number, as `wire` has them: their bytes may be
-// of no command.
+// of no command, and an enum would want a case for that, read off by the same arms.
 fn wrong_field(command: Command) -> &'static str {
     match (command.number, command.kind, command.motor) {
         (15, _, _) => "wrong bank",

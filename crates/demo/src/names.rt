@@ -1,5 +1,6 @@
 // Numbers of commands and their types, and of parameters, by their names. They stay numbers, since a
-// `Command` of `wire` is bytes that may be of no command, and the trace names it by the record as it stands.
+// `Command` of `wire` is bytes that may be of no command, and the trace names it by the record as it stands:
+// an enum would want a case for none of these, and would be read off by the same arms.
 pub(crate) const ROR: u8 = 1;
 
 pub(crate) const MST: u8 = 3;

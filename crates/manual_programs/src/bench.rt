@@ -5,7 +5,8 @@ use machine::Made;
 use reg_image::REGISTERS;
 use status::{Misfit, Status};
 
-// Its stores are arrays, where the board of `script_board` has stores of any length.
+// Its stores are arrays, where the board of `script_board` has stores of any length. The boards of `demo`
+// and `serial_board` have the same arrays, and events of other shapes.
 #[derive(Drop)]
 pub(crate) struct Bench {
     pub(crate) image: [u32; REGISTERS],

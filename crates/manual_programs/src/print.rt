@@ -1,8 +1,12 @@
 // The lines of the trace: headings and remarks as the script has them, and what the board answered and
 // did, set in by two spaces. Where standard output takes no more, the words are lost and the trace goes on.
-use checking::{Answer, Fault};
+//
+// A line is put piece by piece and not formatted whole: the script's own bytes, which need not be text and
+// so are written and not printed, stand between its words.
+use checking::Fault;
 use display::Unread;
 use machine::Made;
+use points::Point;
 use reg_image::REGISTERS;
 use registers::Order;
 use status::{Misfit, Status};
@@ -76,17 +80,20 @@ pub(crate) fn answer(rt: &impl Print, answered: Result<Option<Status>, Misfit>, 
     text(rt, b"\n");
 }
 
-pub(crate) fn verdict(rt: &impl Print, verdict: Result<(), Fault>) {
-    let answer = Answer::from(verdict);
-    let point = answer.point;
-    if answer.number == 100 {
-        text(rt, b"  check: passed\n");
-        return;
-    }
+fn refused(rt: &impl Print, point: Point, status: u8) {
     labelled(rt, b"  check: refused at address ", point.address);
     labelled(rt, b", depth ", point.depth);
-    labelled(rt, b", status ", answer.number);
+    labelled(rt, b", status ", status);
     text(rt, b"\n");
+}
+
+pub(crate) fn verdict(rt: &impl Print, verdict: Result<(), Fault>) {
+    match verdict {
+        Ok(()) => text(rt, b"  check: passed\n"),
+        Err(Fault::Bad(point, status)) => refused(rt, point, status.into()),
+        // The status of what does not fit.
+        Err(Fault::Length) => refused(rt, Point::first(), 20),
+    }
 }
 
 // A number of things by their name.

@@ -3,7 +3,8 @@ use crate::bench::Board;
 use crate::{events, looking, setting};
 use text::{Output, Words};
 
-// The words that answer a line, if it reads: where it does not, nothing is put.
+// The words that answer a line, if it reads: where it does not, nothing is put. The letter says which
+// function answers, and an enum of the letters would only stand between the two.
 pub(crate) fn answer(board: &mut Board, line: &[u8], out: &mut Output) -> Option<()> {
     let (letter, rest) = line.split_first()?;
     let words = Words::new(rest);

@@ -6,9 +6,9 @@ use numbered::Checked;
 use reg_image::REGISTERS;
 use status::{Misfit, Status};
 
-pub(crate) const PROGRAM: usize = 7168;
+const PROGRAM: usize = 7168;
 
-pub(crate) const CELLS: usize = 364;
+const CELLS: usize = 364;
 
 const REPLY: usize = 9;
 

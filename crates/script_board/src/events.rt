@@ -1,6 +1,7 @@
 // The events under test: a line's words, the event, and the words that it is answered by.
 //
-// A line that does not read is answered by nothing here, and leaves the board as it is.
+// A line that does not read is answered by nothing here, and leaves the board as it is. Board, words and
+// output are three parameters and no struct, since each line needs them in other ways.
 use crate::bench::Board;
 use status::Misfit;
 use text::{Output, Words};

@@ -21,7 +21,7 @@ const FACTOR_4: u32 = 1345077009;
 const COUNT: usize = 10;
 
 // Where the register at a place of the dump stands in the image, which has the axis parameters behind the
-// globals and the user variables.
+// globals and the user variables. The places are the script format's own, docs/SCRIPT.md.
 pub(crate) fn image_place(place: usize) -> usize
     requires { place < 137 }
     ensures { result < 137 }

@@ -70,7 +70,9 @@ impl Player {
         self.long = false;
     }
 
-    // The answers to a piece's whole lines, as long as there is room. Answers how many bytes they have.
+    // The answers to a piece's whole lines, as long as there is room. Answers how many bytes they have. The
+    // loop ends where there is no room behind an answer, and counts the bytes of the lines that it took: a
+    // chain over the lines would have to carry both.
     fn lines(&mut self, piece: &[u8]) -> usize {
         let mut rest = piece;
         while let Some(end) = rest.iter().position(|b| *b == b'\n') {

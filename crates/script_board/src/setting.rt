@@ -1,10 +1,12 @@
 // Setting the board up: a new board, and single records, cells, registers and lengths.
 //
-// A line that does not read changes nothing; any other is answered by its letter.
-use crate::bench::{Board, CELLS, PROGRAM};
+// A line that does not read changes nothing; any other is answered by its letter. Each takes the board, the
+// words and the output, which its line needs in a way of its own.
+use crate::bench::Board;
 use crate::looking::image_place;
 use crate::stores::Store;
 use text::{Output, Words};
+use wire::command_in;
 use words::Word;
 
 pub(crate) fn renew(board: &mut Board, words: Words, out: &mut Output) -> Option<()> {
@@ -20,10 +22,10 @@ pub(crate) fn record(board: &mut Board, mut words: Words, out: &mut Output) -> O
     let mut room = [0; 64];
     let count = words.bytes(&mut room)?;
     let program = board.program.as_mut_slice();
-    if count != 7 || program.len() != PROGRAM {
+    if count != 7 || !store::is_program_store(program) {
         return None;
     }
-    program[address * 7..address * 7 + 7].copy_from_slice(&room[..7]);
+    store::put_record(program, address, command_in(&room[..7]));
     out.put(b'w');
     Some(())
 }
@@ -34,16 +36,16 @@ pub(crate) fn cell(board: &mut Board, mut words: Words, out: &mut Output) -> Opt
     let word = words.word()?;
     words.end()?;
     let cells = board.cells.as_mut_slice();
-    if cells.len() != CELLS {
+    if !store::is_parameter_store(cells) {
         return None;
     }
-    cells[cell * 4..cell * 4 + 4].copy_from_slice(&word.to_be_bytes());
+    store::put_cell(cells, cell, Word { v: word });
     out.put(b'v');
     Some(())
 }
 
 // The bits of a value that the register at a place of the dump can hold: as wide as its kind, so that values
-// out of its range can be set.
+// out of its range can be set. The places are the script format's own, docs/SCRIPT.md.
 fn bits_of(place: usize, value: i64) -> Option<u32> {
     let most = match place {
         8 | 9 | 11 | 12 => 1,

@@ -19,7 +19,7 @@ impl Store {
         }
     }
 
-    // A struct whose ghost field bounds the length could not lend its bytes as `&mut` yet: the bound is
+    // A struct whose ghost field bounds the length cannot lend its bytes as `&mut`: the bound is
     // taken here.
     fn end(&self) -> usize
         ensures { result ≤ 8192 }

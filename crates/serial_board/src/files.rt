@@ -10,12 +10,14 @@ use std::io::{ErrorKind, Write};
 use std::rt::Files;
 use std::{fs, io};
 
-// Linux's numbers for a name that is too long and for bytes that are no text.
+// Linux's numbers for a name that is too long and for bytes that are no text. They stay numbers, since
+// `streams::tell` has the system's words from them.
 const NAME_TOO_LONG: i32 = 36;
 
 const NO_TEXT: i32 = 84;
 
-// A file's name as std takes it, which is a text.
+// A file's name as std takes it, which is a text. That it is too long is told before that it is no text, and
+// in `check_program` behind it.
 fn path_of(name: &[u8]) -> io::Result<&str> {
     if 4096 <= name.len() {
         return Err(io::Error::from_raw_os_error(NAME_TOO_LONG));

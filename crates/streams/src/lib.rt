@@ -62,7 +62,7 @@ pub fn say(stream: &impl Print, line: impl Display + Drop) {
 }
 
 // The system's words of an error: as std prints them, they have its number behind them, and what is left of
-// the room behind that is zeros.
+// the room behind that is zeros. Words without a number have the zeros trimmed, as a test holds.
 fn cause(said: &str) -> &str {
     match said.split_once(" (os error ") {
         Some((before, _)) => before,

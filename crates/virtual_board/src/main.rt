@@ -3,9 +3,6 @@
 // given.
 #![tactic(auto)]
 
-ghost use Rattle.std.specs.Prelude.{◌≤◌};
-ghost use Rattle.std.specs.Option.{IfSome};
-
 use std::env::FillError;
 use std::rt::{Env, Files};
 
@@ -18,15 +15,12 @@ fn usage(stderr: &impl Print) {
     );
 }
 
-// The length of the name that an argument at the front of a buffer is, 0 where it is missing: none where it
-// is empty or does not fit.
-fn name(rt: &impl Env, place: usize, room: &mut [u8; LONGEST]) -> Option<usize>
-    ensures { IfSome result (λ n. n ≤ 4096) }
-{
+// The name that an argument is, of no bytes where it is missing: none where it is empty or does not fit.
+fn name<'r>(rt: &impl Env, place: usize, room: &'r mut [u8; LONGEST]) -> Option<&'r [u8]> {
     match rt.arg(place, room) {
         Ok(0) => None,
-        Ok(count) => Some(count),
-        Err(FillError::NotPresent) => Some(0),
+        Ok(count) => Some(&room[..count]),
+        Err(FillError::NotPresent) => Some(&[]),
         Err(_) => None,
     }
 }
@@ -34,15 +28,14 @@ fn name(rt: &impl Env, place: usize, room: &mut [u8; LONGEST]) -> Option<usize>
 // A board on a serial line, where the arguments ask for one.
 fn serial(rt: &(impl Env + Files + Input + Print), stderr: &impl Print) -> Option<()> {
     let mut word = [0; LONGEST];
-    let mut cells = [0; LONGEST];
-    let mut program = [0; LONGEST];
-    let count = name(rt, 1, &mut word)?;
-    if &word[..count] != b"serial".as_slice() {
+    let mut cells_room = [0; LONGEST];
+    let mut program_room = [0; LONGEST];
+    if name(rt, 1, &mut word)? != b"serial".as_slice() {
         return None;
     }
-    let cells_count = name(rt, 2, &mut cells)?;
-    let program_count = name(rt, 3, &mut program)?;
-    serial_board::serve(rt, stderr, &cells[..cells_count], &program[..program_count]);
+    let cells = name(rt, 2, &mut cells_room)?;
+    let program = name(rt, 3, &mut program_room)?;
+    serial_board::serve(rt, stderr, cells, program);
     Some(())
 }
 

@@ -1,7 +1,7 @@
 // A buffer of 64 KiB of fixed memory, filled from its front. A contract sees the bytes that are put.
 //
 // Bytes that find no room are left out, so a caller sees to room first.
-ghost use Rattle.std.specs.Prelude.{◌≡◌, ◌≤◌, List, [], ◌∷◌, ℕ, take, length};
+ghost use Rattle.std.specs.Prelude.{◌≡◌, ◌≤◌, List, [], ◌∷◌, ℕ, take, length, set};
 ghost use Rattle.text.specs.Put.{Put, decimal, signed, hex};
 
 use std::marker::Model;
@@ -54,6 +54,15 @@ impl Output {
         if self.end < ROOM {
             self.bytes[self.end] = b;
             self.end += 1;
+        }
+    }
+
+    // Another byte at a place, where one is put there.
+    pub fn replace(&mut self, place: usize, b: u8)
+        ensures { self.new ≡ set self.old place b }
+    {
+        if place < self.end {
+            self.bytes[place] = b;
         }
     }
 

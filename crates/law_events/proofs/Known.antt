@@ -2,7 +2,7 @@
 use Prim.Native.Nat.{ℕ}
 use mathlib.Core.Path.{◌≡◌, refl, sym, ap, ◌∙◌}
 use lib.Dec.{eqb}
-use Rattle.std.specs.Prelude.{Option, Some, None, Result, Ok, Err}
+use Rattle.std.specs.Prelude.{Option, Some, None, Result, Ok, Err, IfOk}
 use Rattle.words.specs.Word.{pick}
 use Rattle.status.specs.Status.{number_of}
 use Rattle.status.specs.declared.Status.{Status}
@@ -13,9 +13,12 @@ use Rattle.status.specs.declared.Misfit.{Misfit}
 use Rattle.status.specs.declared.Misfit.TheVariants.{Length, Sample, Budget, Registers}
 use Rattle.status.specs.Refusal.{judged_as}
 use Rattle.status.specs.Misfit.{told}
+use Rattle.cmd_turns.specs.declared.Obeyed.{Obeyed}
+use Rattle.cmd_turns.specs.Obeyed.{obeyed_as}
 use Rattle.machine.specs.declared.Made.{Made}
 use Rattle.board_runs.specs.Run.{Ran, numbers_of}
 use Rattle.board_datagrams.specs.Datagram.{number_answered}
+use Rattle.board_by_value.specs.Step.{number_stepped}
 use Rattle.law_events.specs.Known.{Known}
 
 -- two that are made from one thing are one
@@ -102,6 +105,46 @@ made_again (Err Sample) = refl
 made_again (Err Budget) = refl
 made_again (Err Registers) = refl
 
+-- ---- a step by value
+abbrev stepped : ℕ → Result Status Misfit
+stepped n = fitted n (Ok (status_of n))
+
+stepped_again : (x : Result Status Misfit) → stepped (number_stepped x) ≡ x
+stepped_again (Ok status.Done) = refl
+stepped_again (Ok status.Stored) = refl
+stepped_again (Ok status.Checksum) = refl
+stepped_again (Ok status.Unknown) = refl
+stepped_again (Ok status.Kind) = refl
+stepped_again (Ok status.Value) = refl
+stepped_again (Ok status.Locked) = refl
+stepped_again (Ok status.Unavailable) = refl
+stepped_again (Err Length) = refl
+stepped_again (Err Sample) = refl
+stepped_again (Err Budget) = refl
+stepped_again (Err Registers) = refl
+
+-- ---- storing: what is not stored is refused
+abbrev storing : Status → Obeyed → Result Obeyed Refusal
+storing status.Done o = Ok o
+storing status.Stored o = Ok o
+storing status.Checksum o = Ok o
+storing status.Unknown o = Err refusal.Unknown
+storing status.Kind o = Err refusal.Kind
+storing status.Value o = Err refusal.Value
+storing status.Locked o = Err refusal.Locked
+storing status.Unavailable o = Err refusal.Unavailable
+
+storing_again : (x : Result Obeyed Refusal) → IfOk x (λ o. o.status ≡ status.Stored) → storing (obeyed_as x).status (obeyed_as x) ≡ x
+storing_again (Ok o) e = rw e refl
+storing_again (Err refusal.Unknown) e = refl
+storing_again (Err refusal.Kind) e = refl
+storing_again (Err refusal.Value) e = refl
+storing_again (Err refusal.Locked) e = refl
+storing_again (Err refusal.Unavailable) e = refl
+
+one_stored : (x y : Result Obeyed Refusal) → IfOk x (λ o. o.status ≡ status.Stored) → IfOk y (λ o. o.status ≡ status.Stored) → obeyed_as x ≡ obeyed_as y → x ≡ y
+one_stored x y s t e = sym (storing_again x s) ∙ ap (λ o. storing o.status o) e ∙ storing_again y t
+
 pub laws : Known
 laws =
     record {
@@ -109,4 +152,6 @@ laws =
       one_told = known told (λ n. fitted n (Ok tt)) told_again;
       one_replied = known number_answered replied replied_again;
       one_made = known numbers_of made made_again;
+      one_stepped = known number_stepped stepped stepped_again;
+      one_stored = one_stored;
     }

@@ -21,17 +21,24 @@ pub(crate) struct Board {
 }
 
 impl Board {
-    // No program, default cells, an empty reply buffer, powered up.
     pub(crate) fn new() -> Self {
         let mut board = Board {
             image: [0; REGISTERS],
-            program: Store::new(PROGRAM),
-            cells: Store::new(CELLS),
-            reply: Store::new(REPLY),
+            program: Store::new(),
+            cells: Store::new(),
+            reply: Store::new(),
         };
-        let _ = board_events::new_cells(board.cells.as_mut_slice());
-        let _ = board.power_up();
+        board.renew();
         board
+    }
+
+    // No program, default cells, an empty reply buffer, powered up: in place, since a board is some 25,000 bytes.
+    pub(crate) fn renew(&mut self) {
+        self.program.renew(PROGRAM);
+        self.cells.renew(CELLS);
+        self.reply.renew(REPLY);
+        let _ = board_events::new_cells(self.cells.as_mut_slice());
+        let _ = self.power_up();
     }
 
     pub(crate) fn power_up(&mut self) -> Result<(), Misfit> {

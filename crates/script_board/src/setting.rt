@@ -11,7 +11,7 @@ use words::Word;
 
 pub(crate) fn renew(board: &mut Board, words: Words, out: &mut Output) -> Option<()> {
     words.end()?;
-    *board = Board::new();
+    board.renew();
     out.put(b'n');
     Some(())
 }

@@ -11,12 +11,20 @@ impl Store {
     // The longest that a store may be.
     pub(crate) const MOST: usize = 8192;
 
-    // A store of bytes 0.
-    pub(crate) fn new(len: usize) -> Self {
+    // A store of no bytes.
+    pub(crate) fn new() -> Self {
         Store {
             bytes: [0; Store::MOST],
-            len,
+            len: 0,
         }
+    }
+
+    // A store of so many bytes 0.
+    pub(crate) fn renew(&mut self, len: usize)
+        requires { len ≤ 8192 }
+    {
+        self.bytes[..len].fill(0);
+        self.len = len;
     }
 
     // A struct whose ghost field bounds the length cannot lend its bytes as `&mut`: the bound is

@@ -7,6 +7,8 @@ pub enum Failure<'a> {
     // It has another length than the image that it is to hold.
     Length(&'a [u8], usize),
     Io(&'a [u8], io::Error),
+    // It cannot be written: the same, and the new file of this name that is to be taken away.
+    Unsaved(&'a [u8], io::Error, &'a [u8]),
 }
 
 impl Failure<'_> {
@@ -22,7 +24,9 @@ impl Failure<'_> {
                     format_args!(": has another length than {length} bytes"),
                 );
             }
-            Failure::Io(name, error) => streams::tell(stream, name, error),
+            Failure::Io(name, error) | Failure::Unsaved(name, error, _) => {
+                streams::tell(stream, name, error)
+            }
         }
     }
 }

@@ -83,17 +83,12 @@ impl<'a> ImageFile<'a> {
     // The bytes into the file.
     pub(crate) fn save(&self, rt: &impl Files, bytes: &[u8]) -> Result<(), Failure<'a>> {
         let file = create(rt, self.fresh).map_err(|error| Failure::Io(self.fresh, error))?;
-        let replaced = match put(file, bytes) {
-            Ok(()) => {
-                rename(rt, self.fresh, self.name).map_err(|error| Failure::Io(self.name, error))
-            }
-            Err(error) => Err(Failure::Io(self.fresh, error)),
-        };
-        match replaced {
-            Ok(()) => settle(rt, self.name),
-            Err(_) => remove(rt, self.fresh),
-        }
-        replaced
+        put(file, bytes).map_err(|error| Failure::Unsaved(self.fresh, error, self.fresh))?;
+        rename(rt, self.fresh, self.name).map_err(|error| Failure::Unsaved(
+            self.name, error, self.fresh,
+        ))?;
+        settle(rt, self.name);
+        Ok(())
     }
 }
 
@@ -108,7 +103,7 @@ fn rename(rt: &impl Files, fresh: &[u8], name: &[u8]) -> io::Result<()> {
 }
 
 // A new file that cannot take the name is not left behind, as far as it can be taken away.
-fn remove(rt: &impl Files, fresh: &[u8]) {
+pub(crate) fn remove(rt: &impl Files, fresh: &[u8]) {
     if let Ok(path) = path_of(fresh) {
         let _ = fs::remove_file(rt, path);
     }

@@ -3,7 +3,7 @@
 //
 // A reply says that what was asked is done, so it goes out only once the files hold what it changed.
 use crate::failure::Failure;
-use crate::files::ImageFile;
+use crate::files::{ImageFile, remove};
 use crate::kept::Kept;
 use reg_image::REGISTERS;
 use std::rt::Files;
@@ -142,5 +142,8 @@ pub fn serve(
     let program = ImageFile::named(program_name, &mut program_room);
     if let Err(failure) = session(rt, cells, program) {
         failure.tell(stderr);
+        if let Failure::Unsaved(_, _, fresh) = failure {
+            remove(rt, fresh);
+        }
     }
 }

@@ -3,10 +3,10 @@ use Prim.Native.Nat.{ℕ, zero, suc, ◌+◌, ◌-◌, ◌/◌, ◌%◌, ◌≤�
 use native.Mathlib.Omega.{arith}
 use mathlib.Core.Path.{◌≡◌, refl, sym, ap, ◌∙◌}
 use mathlib.Core.List.{List, [], ◌∷◌, ◌++◌, append_assoc}
-use lib.ListN.{length, take, set, get_or}
+use lib.ListN.{length, take, drop, set, get_or, drop_of_length-le}
 use lib.Seq.{take-append-add}
 use Rattle.std.proofs.lemmas.List.{take_min, append-nil, take_more_set, take_all, take_at, length_push, length-take-le}
-use Rattle.std.proofs.lemmas.Fmt.{decimal_from_prepends, decimal_step, decimal_digit, length-decimal-le}
+use Rattle.std.proofs.lemmas.Fmt.{decimal_from_prepends, decimal_digit, length-decimal-le}
 use Rattle.std.proofs.Common.{rules}
 use Rattle.std.proofs.lemmas.Slice.{take-put_mid}
 use borrow.Rule.Slice.PartMut.{put_mid}
@@ -52,10 +52,9 @@ same_decimal n h = decimal_from_prepends digits_before (search rules) 20 n [] h 
 pub one_digit : (n : ℕ) → n < 10 → decimal n ≡ (48 + n) ∷ []
 one_digit n h = same_decimal n (omega arith) ∙ decimal_digit n h
 
-pub more_digits : (n : ℕ) → 10 ≤ n → n < 18446744073709551616 → decimal n ≡ decimal (n / 10) ++ ((48 + n % 10) ∷ [])
-more_digits n k h =
-    let g : n / 10 < 18446744073709551616 = omega arith in
-    same_decimal n h ∙ decimal_step n k h ∙ sym (ap (λ (l : List ℕ). l ++ ((48 + n % 10) ∷ [])) (same_decimal (n / 10) g))
+-- digits at the end of an array
+pub no_text : (l : List ℕ) (i : ℕ) → length l ≤ i → drop i l ≡ []
+no_text l i h = drop_of_length-le l h
 
 -- ---- the buffer's bytes, up to the end that they are put to
 module _ (bytes before : List ℕ) (end b : ℕ) (size : length bytes ≡ 65536) (view : take end bytes ≡ before) where
@@ -71,18 +70,18 @@ module _ (bytes before : List ℕ) (end b : ℕ) (size : length bytes ≡ 65536)
       let e : length before ≡ 65536 = ap length (sym view) ∙ length-take-le end bytes (omega arith) ∙ omega arith in
       record { out = sym (take_at before (b ∷ []) 65536 e) }
 
-pub with-part : (bytes before text part : List ℕ) (end count : ℕ) → length bytes ≡ 65536 → take end bytes ≡ before → end ≤ 65536
-    → count ≡ min (65536 - end) (length text) → part ≡ take count text
-    → Put before text (take (end + count) (put_mid end (end + count - end) bytes part))
-with-part bytes before text part end count size view h e f =
+pub with-part : (bytes before text part : List ℕ) (end count last : ℕ) → length bytes ≡ 65536 → take end bytes ≡ before → end ≤ 65536
+    → last ≡ end + count → count ≡ min (65536 - end) (length text) → part ≡ take count text
+    → Put before text (take last (put_mid end (last - end) bytes part))
+with-part bytes before text part end count last size view h l e f =
     let k : count ≤ length text = omega arith in
     let n : length part ≡ count = ap length f ∙ length-take-le count text k in
-    let m : end + count ≡ end + length part = omega arith in
+    let m : last ≡ end + length part = omega arith in
     let j : end ≤ length bytes = omega arith in
     let b : length before ≡ end = ap length (sym view) ∙ length-take-le end bytes j in
     record {
       out =
-          take-put_mid end (end + count - end) bytes part (end + count) m j
+          take-put_mid end (last - end) bytes part last m j
           ∙ ap (λ (l : List ℕ). l ++ part) view
           ∙ ap (λ (l : List ℕ). before ++ l) (f ∙ ap (λ (i : ℕ). take i text) e)
           ∙ within before text end b h;

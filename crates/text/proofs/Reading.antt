@@ -19,24 +19,38 @@ use Rattle.std.specs.Prelude.{Result, Ok, Err, unsigned_abs as mag_of}
 use Rattle.std.specs.Result.{OkIff, result_ok}
 use Rattle.std.specs.Int.{FitsUnsignedBits}
 use Rattle.std.proofs.lemmas.List.{at_drop_more, append-nil, take_all, take_more_set}
+use Rattle.std.proofs.lemmas.List.Folds.{length-prefix_len}
 use Rattle.words.specs.declared.Word.{Word}
 use Rattle.text.proofs.Word.{word_value}
 use Rattle.text.specs.Line.{behind_space}
-use Rattle.text.specs.Numbers.{digit_count, size_of, most_of, value_of, signed_of, of_digits, number_from, number_word, number_at, is_up_to, is_word, word_of, size, if_up_to, if_word, up_to_at, word_at, words_at, Reads}
+use Rattle.text.specs.Numbers.{is_digit, digit_count, leading_size, size_of, most_of, value_of, signed_of, of_digits, number_from, number_word, number_at, is_up_to, is_word, word_of, size, if_up_to, if_word, up_to_at, word_at, words_at, Reads}
 
 -- ---- the size of digits
 grows : (l : List ℕ) (n : ℕ) → n ≤ size_of n l
 grows [] n = omega arith
 grows (b ∷ l) n = let h = grows l (n * 10 + (b - 48)) in omega (arith, h)
 
-module _ (l : List ℕ) (i n : ℕ) (h : i < length l) (e : size_of n (drop i l) ≡ size_of 0 l) where
-  pub one-digit : size_of (n * 10 + (get_or l i 0 - 48)) (drop (i + 1) l) ≡ size_of 0 l
-  one-digit = sym (at_drop_more (size_of n) l i 0 h) ∙ e
+-- a digit is one more, and goes on with the size
+count-digit : (b : ℕ) (l : List ℕ) → is_digit b ≡ true → digit_count (b ∷ l) ≡ suc (digit_count l)
+count-digit b l d = simp d (omega arith)
 
-  pub too_large : (m : ℕ) → (n * 10 + (get_or l i 0 - 48) < m → ⊥) → size_of 0 l < m → ⊥
-  too_large m k s =
-      let g = grows (drop (i + 1) l) (n * 10 + (get_or l i 0 - 48)) in
-      k (omega (arith, g, one-digit, s))
+size-digit : (n b : ℕ) (l : List ℕ) → is_digit b ≡ true → leading_size n (b ∷ l) ≡ leading_size (n * 10 + (b - 48)) l
+size-digit n b l d = ap (λ (m : ℕ). size_of n (take m (b ∷ l))) (count-digit b l d)
+
+module _ (l : List ℕ) (i n : ℕ) (h : i < length l) (d : is_digit (get_or l i 0) ≡ true) where
+  pub next-count : i + digit_count (drop i l) ≡ digit_count l → i + 1 + digit_count (drop (i + 1) l) ≡ digit_count l
+  next-count k =
+      let e : digit_count (drop i l) ≡ suc (digit_count (drop (i + 1) l)) = at_drop_more digit_count l i 0 h ∙ count-digit (get_or l i 0) (drop (i + 1) l) d in
+      omega (arith, e, k)
+
+  module _ (e : leading_size n (drop i l) ≡ leading_size 0 l) where
+    pub next-size : leading_size (n * 10 + (get_or l i 0 - 48)) (drop (i + 1) l) ≡ leading_size 0 l
+    next-size = sym (size-digit n (get_or l i 0) (drop (i + 1) l) d) ∙ sym (at_drop_more (leading_size n) l i 0 h) ∙ e
+
+    pub too_large : (m : ℕ) → (n * 10 + (get_or l i 0 - 48) < m → ⊥) → leading_size 0 l < m → ⊥
+    too_large m k s =
+        let g = grows (take (digit_count (drop (i + 1) l)) (drop (i + 1) l)) (n * 10 + (get_or l i 0 - 48)) in
+        k (omega (arith, g, next-size, s))
 
 -- ---- the number of a sign and a size
 one_of : (minus : Bool) (size : ℕ) (z : ℤ) (r : Option ℤ) → value_of minus size ≡ z
@@ -86,23 +100,30 @@ unfolding signed_of
 too_large_of true n h = let k : 9223372036854775808 < n = omega (arith, h) in simp (lt-ltb 9223372036854775808 n k)
 too_large_of false n h = let k : 9223372036854775807 < n = omega (arith, h) in simp (lt-ltb 9223372036854775807 n k)
 
-module _ (minus : Bool) (text : List ℕ) (digits : List ℕ) (e : digits ≡ take (digit_count text) text) where
-  pub no_digit : length digits ≡ 0 → number_from minus text ≡ None
+none_of : (minus : Bool) (l : List ℕ) → (size_of 0 l < 18446744073709551616 → ⊥) → of_digits minus l ≡ None
+none_of minus [] h = refl
+none_of minus (b ∷ l) h = too_large_of minus (size_of 0 (b ∷ l)) h
+
+module _ (minus : Bool) (text : List ℕ) where
+  pub no_size : (leading_size 0 text < 18446744073709551616 → ⊥) → None ≡ number_from minus text
   unfolding number_from
-  no_digit h = rw (← e) (rw (of_none minus digits h))
+  no_size k = rw (none_of minus (take (digit_count text) text) k)
 
-  module _ (h : length digits ≡ 0 → ⊥) where
-    pub no_size : (size_of 0 digits < 18446744073709551616 → ⊥) → number_from minus text ≡ None
-    unfolding number_from
-    no_size k = rw (← e) (rw (of_some minus digits h, too_large_of minus (size_of 0 digits) k))
+  pub no_digit : digit_count text ≡ 0 → None ≡ number_from minus text
+  unfolding number_from
+  no_digit e = rw (of_none minus (take (digit_count text) text) (length-prefix_len is_digit text ∙ e))
 
-    pub no_number : signed_of minus (size_of 0 digits) ≡ None → number_from minus text ≡ None
-    unfolding number_from
-    no_number k = rw (← e) (rw (of_some minus digits h, k))
+  module _ (h : digit_count text ≡ 0 → ⊥) where
+    some_digit : of_digits minus (take (digit_count text) text) ≡ signed_of minus (leading_size 0 text)
+    some_digit = of_some minus (take (digit_count text) text) (λ e. h (sym (length-prefix_len is_digit text) ∙ e))
 
-    pub one_number : (n : ℤ) → signed_of minus (size_of 0 digits) ≡ Some n → number_from minus text ≡ Some (n, drop (digit_count text) text)
+    pub no_number : signed_of minus (leading_size 0 text) ≡ None → None ≡ number_from minus text
     unfolding number_from
-    one_number n k = rw (← e) (rw (of_some minus digits h, k))
+    no_number k = rw (some_digit, k)
+
+    pub one_number : (n : ℤ) → signed_of minus (leading_size 0 text) ≡ Some n → Some (n, drop (digit_count text) text) ≡ number_from minus text
+    unfolding number_from
+    one_number n k = rw (some_digit, k)
 
 -- ---- the number behind a space
 module _ (text : List ℕ) where

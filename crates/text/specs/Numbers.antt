@@ -20,6 +20,10 @@ abbrev pub size_of : ℕ → List ℕ → ℕ
 size_of n [] = n
 size_of n (b ∷ l) = size_of (n * 10 + (b - 48)) l
 
+-- and with those that a text begins with
+abbrev pub leading_size : ℕ → List ℕ → ℕ
+leading_size n text = size_of n (take (digit_count text) text)
+
 -- ---- one number
 -- the size of the lowest signed 64-bit number, and of the highest
 abbrev pub most_of : Bool → ℕ

@@ -1,7 +1,7 @@
 // A buffer of 64 KiB of fixed memory, filled from its front. A contract sees the bytes that are put.
 //
 // Bytes that find no room are left out, so a caller sees to room first.
-ghost use Rattle.std.specs.Prelude.{◌≡◌, ◌≤◌, List, [], ◌∷◌, ℕ, take, length};
+ghost use Rattle.std.specs.Prelude.{◌≡◌, ◌≤◌, List, [], ◌∷◌, ℕ, take, drop, length, set};
 ghost use Rattle.text.specs.Put.{Put, decimal, signed, hex};
 
 use std::marker::Model;
@@ -11,6 +11,25 @@ const ROOM: usize = 65536;
 // Digits are put by hand, in decimal and in hex: `write!` promises them only where it answers `Ok`, and
 // what puts them cannot fail.
 const DIGITS: [u8; 16] = *b"0123456789abcdef";
+
+// A number's digits at the end of an array. Answers where they begin. A recursion that puts each digit by
+// itself is shorter, and takes twice as long: the buffer's end then goes through memory at each digit.
+fn spell(n: u64, text: &mut [u8; 20]) -> usize
+    ensures value { drop result text.new ≡ decimal n }
+    ensures bound { result ≤ 20 }
+{
+    let mut rest = n;
+    let mut at = 20;
+    while 0 < at {
+        at -= 1;
+        text[at] = b'0' + (rest % 10) as u8;
+        rest /= 10;
+        if rest == 0 {
+            break;
+        }
+    }
+    at
+}
 
 #[derive(Drop)]
 pub struct Output {
@@ -57,23 +76,41 @@ impl Output {
         }
     }
 
+    // Another byte at a place, where one is put there.
+    pub fn replace(&mut self, place: usize, b: u8)
+        ensures { self.new ≡ set self.old place b }
+    {
+        if place < self.end {
+            self.bytes[place] = b;
+        }
+    }
+
     pub fn put_all(&mut self, text: &[u8])
         ensures { Put self.old text.now self.new }
     {
-        let count = (ROOM - self.end).min(text.len());
-        let end = self.end + count;
-        self.bytes[self.end..end].copy_from_slice(&text[..count]);
-        self.end = end;
+        let room = ROOM - self.end;
+        if text.len() <= room {
+            let end = self.end + text.len();
+            self.bytes[self.end..end].copy_from_slice(text);
+            self.end = end;
+        } else {
+            self.bytes[self.end..].copy_from_slice(&text[..room]);
+            self.end = ROOM;
+        }
     }
 
     // A number in decimal.
     fn put_decimal(&mut self, n: u64)
         ensures { Put self.old (decimal n) self.new }
     {
-        if 10 <= n {
-            self.put_decimal(n / 10);
+        if n < 10 {
+            self.put(b'0' + n as u8);
+            return;
         }
-        self.put(b'0' + (n % 10) as u8);
+        let mut text = [0; 20];
+        let from = spell(n, &mut text);
+        let (_, digits) = text.split_at(from);
+        self.put_all(digits);
     }
 
     // A space, and a number in decimal.

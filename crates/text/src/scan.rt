@@ -5,7 +5,7 @@
 ghost use Rattle.std.specs.Prelude.{◌≡◌, ◌<◌, ◌≤◌, ◌^◌, [], ℕ, List, ◌↔◌, drop, length};
 ghost use Rattle.std.specs.Option.{option_copied, option_map, SomeIff, IfSome, IsSome};
 ghost use Rattle.text.specs.Line.{behind_space};
-ghost use Rattle.text.specs.Numbers.{digit_count, size_of, signed_of, number_from, number_at, word_at, up_to_at, words_at, Reads};
+ghost use Rattle.text.specs.Numbers.{digit_count, leading_size, signed_of, number_from, number_at, word_at, up_to_at, words_at, Reads};
 ghost use Rattle.text.specs.Hex.{digit_value, pair_value, hex_at, pairs_of, Took};
 
 use std::marker::Model;
@@ -29,25 +29,22 @@ fn behind_space(text: &[u8]) -> Option<&[u8]>
     text.strip_prefix(b" ")
 }
 
-// How many digits a text begins with.
-fn digit_count(text: &[u8]) -> usize
-    ensures value { result ≡ digit_count text.now }
-    ensures bound { result ≤ length text.now }
-{
-    text.iter().take_while(|b| b.is_ascii_digit()).count()
-}
-
-// The number that digits make.
-fn size(digits: &[u8]) -> Option<u64>
-    ensures { SomeIff result (size_of 0 digits.now < 2 ^ 64) (size_of 0 digits.now) }
+// The number that the digits make that a text begins with, and how many they are. One look finds both, since most
+// lines of a script have numbers.
+fn digits(text: &[u8]) -> Option<(u64, usize)>
+    ensures value { SomeIff result (leading_size 0 text.now < 2 ^ 64) (leading_size 0 text.now, digit_count text.now) }
+    ensures bound { IfSome result (λ r. r.1 ≤ length text.now) }
 {
     let mut size = 0u64;
-    for digit in digits {
+    for (count, b) in text.iter().enumerate() {
+        if !b.is_ascii_digit() {
+            return Some((size, count));
+        }
         size = size
             .checked_mul(10)?
-            .checked_add(u64::from(digit.saturating_sub(b'0')))?;
+            .checked_add(u64::from(b.saturating_sub(b'0')))?;
     }
-    Some(size)
+    Some((size, text.len()))
 }
 
 // The number that a sign and a size give.
@@ -65,11 +62,12 @@ fn signed(minus: bool, size: u64) -> Option<i64>
 fn number_from(minus: bool, text: &[u8]) -> Option<(i64, &[u8])>
     ensures { option_map (λ r. (r.0, r.1.now)) result ≡ number_from minus text.now }
 {
-    let (digits, rest) = text.split_at(digit_count(text));
-    if digits.is_empty() {
+    let (size, count) = digits(text)?;
+    if count == 0 {
         return None;
     }
-    let number = signed(minus, size(digits)?)?;
+    let number = signed(minus, size)?;
+    let (_, rest) = text.split_at(count);
     Some((number, rest))
 }
 
@@ -130,6 +128,14 @@ impl<'a> Words<'a> {
         ensures { result ≡ line.now }
     {
         Words { rest: line }
+    }
+
+    // What is left of the line, so that a caller knows where what was read ends, and may read on from there twice.
+    pub fn left(&self) -> &'a [u8]
+        ensures { result.now ≡ self.now }
+    {
+        let Words { rest: left } = *self;
+        left
     }
 
     // Something where the line is read to its end.
